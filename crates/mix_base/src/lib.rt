@@ -1,0 +1,8 @@
+// What every layer speaks of: want of memory, failures of the outside, bytes and words, the parts of a
+// cipher suite, sources and sinks. Each trait says what an outside object may do, and counts its failures.
+#![tactic(auto)]
+
+mod faults;
+
+pub use faults::Failed;
+pub use faults::Memory;
