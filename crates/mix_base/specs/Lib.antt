@@ -1,1 +1,6 @@
+pub mod ByteLists
 pub mod Faults
+pub mod Reading
+pub mod Suites
+pub mod WordStreams
+pub mod Writing

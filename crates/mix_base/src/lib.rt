@@ -2,7 +2,18 @@
 // cipher suite, sources and sinks. Each trait says what an outside object may do, and counts its failures.
 #![tactic(auto)]
 
+mod byte_lists;
 mod faults;
+mod reading;
+mod suites;
+#[cfg(test)]
+mod tests;
+mod word_streams;
+mod writing;
 
-pub use faults::Failed;
-pub use faults::Memory;
+pub use byte_lists::{Bytes, xor_into};
+pub use faults::{Failed, Memory};
+pub use reading::{MemSource, Source};
+pub use suites::{EncapFault, HopKeys, Kdf, Kem, Mac, PairFault, Shape, Stream, Suite, Wide};
+pub use word_streams::{ListWords, Words};
+pub use writing::{MemSink, PutFault, Sink};
