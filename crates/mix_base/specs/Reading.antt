@@ -1,5 +1,5 @@
 -- What a read takes from a source.
-use Rattle.std.specs.Prelude.{◌≡◌, ℕ, ◌<◌, List, [], ◌++◌, length, take, Option, None, Some, IsSomeAnd}
+use Rattle.std.specs.Prelude.{◌≡◌, ℕ, ◌<◌, List, [], ◌++◌, length, take}
 
 -- a read of n bytes into a buffer: they were the front of what was left; 0 into a buffer with room only at the end
 pub record TakesFront (before after buffer : List ℕ) (n : ℕ) : Type 0 where

@@ -1,5 +1,5 @@
 -- What a put gives to a sink.
-use Rattle.std.specs.Prelude.{◌≡◌, ℕ, ◌<◌, List, [], ◌++◌, length, take}
+use Rattle.std.specs.Prelude.{◌≡◌, ℕ, List, ◌++◌, take}
 
 -- a front of the piece was given, behind what had been given before
 abbrev pub GivesFront : List ℕ → List ℕ → List ℕ → Type 0

@@ -1,4 +1,4 @@
-use Rattle.std.proofs.Common.{◌≡◌, ℕ, ◌+◌, ◌%◌, ◌<◌, vec_len, slice_index, ap, ◌∙◌, sym, arith}
+use Rattle.std.proofs.Common.{◌≡◌, ℕ, ◌+◌, ◌%◌, ◌<◌, vec_len, slice_index, ap, ◌∙◌, arith}
 use Rattle.std.proofs.Math.Nat.{mod-add-mod, mod-eq_of_lt}
 use Rattle.std.proofs.lemmas.Grind.{common_steps}
 use Rattle.mix_base.proofs.word_streams.ListWordsWords.next.Goals as goal
