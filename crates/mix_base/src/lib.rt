@@ -3,6 +3,7 @@
 #![tactic(auto)]
 
 mod faults;
+mod past;
 
-pub use faults::Failed;
-pub use faults::Memory;
+pub use faults::{Failed, Memory};
+pub use past::History;
