@@ -4,6 +4,7 @@
 
 mod byte_lists;
 mod faults;
+mod past;
 mod reading;
 mod suites;
 #[cfg(test)]
@@ -13,6 +14,7 @@ mod writing;
 
 pub use byte_lists::{Bytes, xor_into};
 pub use faults::{Failed, Memory};
+pub use past::History;
 pub use reading::{MemSource, Source};
 pub use suites::{EncapFault, HopKeys, Kdf, Kem, Mac, PairFault, Shape, Stream, Suite, Wide};
 pub use word_streams::{ListWords, Words};
