@@ -1,0 +1,5 @@
+pub mod Hashers
+pub mod Laboratory
+pub mod Primitives
+pub mod WideLaws
+pub mod XorLaws
