@@ -1,6 +1,6 @@
 // SHA-256 (FIPS 180-4), and HMAC over it (RFC 2104) for a message that comes in pieces. Each code is that of
 // the whole message, however it was cut.
-ghost use Rattle.std.specs.Prelude.{◌≡◌, ℕ, List, [], ◌++◌, replicate};
+ghost use Rattle.std.specs.Prelude.{◌≡◌, ℕ, ◌-◌, ◌≤◌, List, [], ◌++◌, length, replicate};
 ghost use Rattle.sha2.specs.Sha256.{sha256};
 ghost use Rattle.mix_base.specs.ByteLists.{xor};
 ghost use Rattle.prim_std.specs.Primitives.{hmac, key_block};
@@ -71,15 +71,24 @@ pub fn hmac_sha256(key: &[u8], message: &[u8]) -> [u8; 32]
 }
 
 // The key as a block of the hash.
+#[tactic(auto, unfolding(crate::specs::Primitives::key_block))]
 fn block_of(key: &[u8]) -> [u8; 64]
     ensures { result ≡ key_block key.now }
 {
-    let mut block = [0; 64];
     if 64 < key.len() {
-        block[..32].copy_from_slice(&sha256(key));
+        padded(&sha256(key))
     } else {
-        block[..key.len()].copy_from_slice(key);
+        padded(key)
     }
+}
+
+// The bytes, and zeros behind them up to 64.
+fn padded(bytes: &[u8]) -> [u8; 64]
+    requires { length bytes.now ≤ 64 }
+    ensures { result ≡ bytes.now ++ replicate (64 - length bytes.now) 0 }
+{
+    let mut block = [0; 64];
+    block[..bytes.len()].copy_from_slice(bytes);
     block
 }
 

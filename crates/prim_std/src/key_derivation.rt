@@ -1,5 +1,5 @@
 // HKDF-Expand (RFC 5869) over HMAC-SHA-256, and the keys of a hop that it derives from the hop's secret.
-ghost use Rattle.std.specs.Prelude.{◌≡◌, ℕ, ◌+◌, ◌≤◌, List, [], ◌∷◌, ◌++◌, length, take, drop};
+ghost use Rattle.std.specs.Prelude.{◌≡◌, ℕ, ◌+◌, ◌≤◌, List, [], ◌∷◌, ◌++◌, length, take, slice_range};
 ghost use Rattle.prim_std.specs.Primitives.{hmac, hkdf_expand, hop_keys};
 
 use crate::Hmac;
@@ -17,7 +17,7 @@ pub fn hkdf_expand(prk: &[u8], info: &[u8], out: &mut [u8])
     let count = out.len().div_ceil(32);
     let mut block = [0; 32];
     let mut held = 0;
-    'blocks: for i in 0..count {
+    'filling: for i in 0..count {
         block = next_block(prk, &block[..held], info, (i + 1) as u8);
         held = 32;
         put(out, 32 * i, &block);
@@ -52,17 +52,24 @@ pub struct LabelKdf;
 impl Kdf for LabelKdf {
     ghost keys = { hop_keys };
 
+    #[tactic(auto, unfolding(crate::specs::Primitives::hop_keys))]
     fn expand(secret: &[u8; 32]) -> HopKeys {
         let mut bytes = [0; 192];
         hkdf_expand(secret, LABEL, &mut bytes);
-        let mut keys = HopKeys {
-            mac: [0; 32],
-            stream: [0; 32],
-            wide: [0; 128],
-        };
-        keys.mac.copy_from_slice(&bytes[..32]);
-        keys.stream.copy_from_slice(&bytes[32..64]);
-        keys.wide.copy_from_slice(&bytes[64..]);
-        keys
+        HopKeys {
+            mac: part(&bytes, 0),
+            stream: part(&bytes, 32),
+            wide: part(&bytes, 64),
+        }
     }
+}
+
+// The bytes from a place on, in the number that the caller wants.
+fn part<const N: usize>(bytes: &[u8], at: usize) -> [u8; N]
+    requires { at + N ≤ length bytes.now }
+    ensures { result ≡ slice_range bytes.now at (at + N) }
+{
+    let mut part = [0; N];
+    part.copy_from_slice(&bytes[at..at + N]);
+    part
 }

@@ -50,6 +50,7 @@ pub struct ChaWords {
 
 impl ChaWords {
     /// The words of the key stream of this key.
+    #[tactic(auto, unfolding(crate::specs::Primitives::chacha_word))]
     pub fn new(seed: &[u8; 32]) -> ChaWords
         ensures { (place : ℕ) → ⟦<ChaWords as Words>⟧.to_come result place ≡ chacha_word seed.now place }
     {

@@ -37,6 +37,7 @@ impl Kem for LabKem {
     const LEAN: bool = true;
 
     /// Both keys are the next eight words. Never fails.
+    #[tactic(auto, unfolding(crate::specs::Laboratory::lab_key))]
     fn pair<W: Words>(
         _alloc: Global,
         words: &mut W,
@@ -57,6 +58,7 @@ impl Kem for LabKem {
     }
 
     /// The ciphertext is the coins and a check of them. Never fails.
+    #[tactic(auto, unfolding(crate::specs::Laboratory::lab_ciphertext, crate::specs::Laboratory::lab_check, crate::specs::Laboratory::lab_secret))]
     fn encap(
         _alloc: Global,
         pk: &[u8],
@@ -78,6 +80,7 @@ impl Kem for LabKem {
     }
 
     /// True just where the last 16 bytes of the ciphertext are the check of the first 32. Never fails.
+    #[tactic(auto, unfolding(crate::specs::Laboratory::lab_opened, crate::specs::Laboratory::lab_check, crate::specs::Laboratory::lab_secret))]
     fn decap(_alloc: Global, sk: &[u8], ct: &[u8], secret: &mut [u8; 32]) -> Result<bool, Memory>
         requires secret_length { length sk.now ≡ 32 }
         requires ciphertext_length { length ct.now ≡ 48 }
@@ -110,11 +113,11 @@ fn code_behind(key: &[u8], first: u8, bytes: &[u8]) -> [u8; 32]
 }
 
 // Fills the list with the next words.
-fn draw<W: Words>(words: &mut W, drawn: &mut [u32; 8])
-    ensures words { drawn.new ≡ first_words (W.to_come words.old) 8 }
-    ensures rest { (place : ℕ) → W.to_come words.new place ≡ W.to_come words.old (8 + place) }
+fn draw<W: Words>(words: &mut W, drawn: &mut [u32])
+    ensures words { drawn.new ≡ first_words (W.to_come words.old) (length drawn.old) }
+    ensures rest { (place : ℕ) → W.to_come words.new place ≡ W.to_come words.old (length drawn.old + place) }
 {
-    'drawing: for i in 0..8 {
+    'drawing: for i in 0..drawn.len() {
         drawn[i] = words.next();
     }
 }

@@ -16,6 +16,7 @@ impl Wide for Lioness {
 
     ghost decrypted = { lioness_decrypted };
 
+    #[tactic(auto, unfolding(crate::specs::Primitives::lioness_encrypted))]
     fn encrypt(key: &[u8; 128], block: &mut [u8]) {
         let (left, right) = block.split_at_mut(32);
         mask_right(&key[0..32], left, right);
@@ -24,6 +25,7 @@ impl Wide for Lioness {
         mask_left(&key[96..128], left, right);
     }
 
+    #[tactic(auto, unfolding(crate::specs::Primitives::lioness_decrypted))]
     fn decrypt(key: &[u8; 128], block: &mut [u8]) {
         let (left, right) = block.split_at_mut(32);
         mask_left(&key[96..128], left, right);
@@ -38,6 +40,7 @@ impl Wide for Lioness {
 }
 
 // Xors the right part with the stream whose key is the left part xored with the round's key.
+#[tactic(auto, unfolding(crate::specs::Primitives::stream_round))]
 fn mask_right(key: &[u8], left: &[u8], right: &mut [u8])
     requires key_length { length key.now ≡ 32 }
     requires left_length { length left.now ≡ 32 }
@@ -50,6 +53,7 @@ fn mask_right(key: &[u8], left: &[u8], right: &mut [u8])
 }
 
 // Xors the left part with the code of the right part under the round's key.
+#[tactic(auto, unfolding(crate::specs::Primitives::hash_round))]
 fn mask_left(key: &[u8], left: &mut [u8], right: &[u8])
     requires { length left.old ≡ 32 }
     ensures { (left.new, right.now) ≡ hash_round key.now (left.old, right.now) }
