@@ -40,5 +40,12 @@ pub take-put : (front rest block written : List ℕ) (at n all : ℕ) → length
     → length block ≡ 32 → n ≡ min (length rest) 32 → written ≡ take n block
     → take (at + 32) (front ++ (written ++ drop n rest)) ≡ take all (front ++ block)
 take-put front rest block written at n all behind whole long count wrote =
-    rw (wrote, ← behind, ← whole, ← behind, take-append-add front (take n block ++ drop n rest) 32, take-append-add front block (length rest),
-        take-overwritten rest block n long count) refl
+    rw (
+      wrote,
+      ← behind,
+      ← whole,
+      ← behind,
+      take-append-add front (take n block ++ drop n rest) 32,
+      take-append-add front block (length rest),
+      take-overwritten rest block n long count,
+    ) refl

@@ -35,11 +35,18 @@ xor-word key word place (a ∷ []) at few =
 xor-word key word place (a ∷ b ∷ []) at few =
     rw (chacha_byte-in_word key word 0 place (omega arith) (omega arith), chacha_byte-in_word key word 1 (place + 1) (omega arith) (omega arith)) refl
 xor-word key word place (a ∷ b ∷ c ∷ []) at few =
-    rw (chacha_byte-in_word key word 0 place (omega arith) (omega arith), chacha_byte-in_word key word 1 (place + 1) (omega arith) (omega arith),
-        chacha_byte-in_word key word 2 (place + 1 + 1) (omega arith) (omega arith)) refl
+    rw (
+      chacha_byte-in_word key word 0 place (omega arith) (omega arith),
+      chacha_byte-in_word key word 1 (place + 1) (omega arith) (omega arith),
+      chacha_byte-in_word key word 2 (place + 1 + 1) (omega arith) (omega arith),
+    ) refl
 xor-word key word place (a ∷ b ∷ c ∷ d ∷ []) at few =
-    rw (chacha_byte-in_word key word 0 place (omega arith) (omega arith), chacha_byte-in_word key word 1 (place + 1) (omega arith) (omega arith),
-        chacha_byte-in_word key word 2 (place + 1 + 1) (omega arith) (omega arith), chacha_byte-in_word key word 3 (place + 1 + 1 + 1) (omega arith) (omega arith)) refl
+    rw (
+      chacha_byte-in_word key word 0 place (omega arith) (omega arith),
+      chacha_byte-in_word key word 1 (place + 1) (omega arith) (omega arith),
+      chacha_byte-in_word key word 2 (place + 1 + 1) (omega arith) (omega arith),
+      chacha_byte-in_word key word 3 (place + 1 + 1 + 1) (omega arith) (omega arith),
+    ) refl
 xor-word key word place (a ∷ b ∷ c ∷ d ∷ e ∷ more) at few = absurd (omega arith)
 
 -- the generator of a key that stands at a place
@@ -81,8 +88,8 @@ take-xored key old now chunk bytes word at size end before place same few within
     let piece_long : length piece ≡ size = length-take-le size (drop at old) (omega (arith, length-drop at old)) in
     let front_long : length (take at old) ≡ at = length-take-le at old (omega arith) in
     let value : chunk ≡ xor_stream (chacha_byte key) at piece =
-        xored ∙ rw (before.left, drawn) (rw piece_long at (xor-word key word at piece place (omega arith))) in
+    xored ∙ rw (before.left, drawn) (rw piece_long at (xor-word key word at piece place (omega arith))) in
     let joined : xor_stream (chacha_byte key) 0 (take at old ++ piece) ≡ xor_stream (chacha_byte key) 0 (take at old) ++ xor_stream (chacha_byte key) at piece =
-        rw (zero-add, front_long) at (xor_stream-append (chacha_byte key) 0 (take at old) piece) in
+    rw (zero-add, front_long) at (xor_stream-append (chacha_byte key) 0 (take at old) piece) in
     take-put_mid at size now chunk end (omega arith) (omega arith)
     ∙ rw (before.done, value, ends, take-add at size old, joined) refl

@@ -7,6 +7,8 @@ mod hashing;
 mod key_derivation;
 mod key_stream;
 mod laboratory;
+#[cfg(test)]
+mod tests;
 mod wide_cipher;
 
 pub use hashing::{Hmac, HmacMac, hmac_sha256, sha256};

@@ -15,7 +15,7 @@ filling-preserved c =
     let info = c.args.info.now in
     let size = length c.filling.out in
     let block : c.next_block-block.result ≡ hkdf_block prk info (i + 1) =
-        rw c.filling.invariant.previous at c.next_block-block.ensures ∙ sym (hkdf_block-next prk info i) in
+    rw c.filling.invariant.previous at c.next_block-block.ensures ∙ sym (hkdf_block-next prk info i) in
     let end : 32 * (i + 1) ≡ 32 * i + 32 = omega arith in
     let same : length c.put.new.out ≡ size = omega arith in
     record {

@@ -14,10 +14,10 @@ words-preserved c =
     let key = c.args.key.now in
     let old = c.args.buf.now in
     let word : c.next_word.result ≡ chacha_word key i =
-        next_word-value key i _ _ _ c.words.invariant.generator c.next_word.ensures (omega arith) in
+    next_word-value key i _ _ _ c.words.invariant.generator c.next_word.ensures (omega arith) in
     let width : 4 * i + 4 - 4 * i ≡ 4 = omega arith in
     let bytes : c.to_le_bytes-word.result ≡ take 4 (to_le_bytes w32 (chacha_word key i)) =
-        c.to_le_bytes-word.ensures ∙ rw word refl in
+    c.to_le_bytes-word.ensures ∙ rw word refl in
     record {
       generator = next_word-rest key i _ _ _ c.words.invariant.generator c.next_word.ensures (omega arith);
       xored = record {
@@ -42,12 +42,12 @@ returns-then-over-gt0 c =
     let same : length buf ≡ length old = omega arith in
     let over : length buf % 4 ≡ size = omega arith in
     let word : next.result ≡ chacha_word key whole =
-        rw at at (next_word-value key c.words.i _ _ _ c.words.invariant.generator next.ensures (omega arith)) in
+    rw at at (next_word-value key c.words.i _ _ _ c.words.invariant.generator next.ensures (omega arith)) in
     let bytes : take (length buf % 4) drawn.result ≡ take size (to_le_bytes w32 (chacha_word key whole)) =
-        ap (λ (k : ℕ). take k drawn.result) over ∙ ap (take size) (drawn.ensures ∙ ap (to_le_bytes w32) word) in
+    ap (λ (k : ℕ). take k drawn.result) over ∙ ap (take size) (drawn.ensures ∙ ap (to_le_bytes w32) word) in
     let below : XoredBelow key old buf (4 * whole) = rw at at c.words.invariant.xored in
     let xored : take (length old) (put_mid (4 * whole) size buf c.xor_into.new.target) ≡ xor_stream (chacha_byte key) 0 (take (length old) old) =
-        take-xored key old buf c.xor_into.new.target (take (length buf % 4) drawn.result) whole (4 * whole) size (length old)
-        below refl same (omega arith) (omega arith) (omega arith) bytes c.xor_into.ensures (omega arith) in
+    take-xored key old buf c.xor_into.new.target (take (length buf % 4) drawn.result) whole (4 * whole) size (length old)
+    below refl same (omega arith) (omega arith) (omega arith) bytes c.xor_into.ensures (omega arith) in
     let long : length (put_mid (4 * whole) size buf c.xor_into.new.target) ≡ length old = search (rules, places) in
     sym (take_all (length old) _ (omega arith)) ∙ xored ∙ ap (xor_stream (chacha_byte key) 0) (take_all (length old) old (omega arith))

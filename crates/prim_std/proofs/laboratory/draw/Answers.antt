@@ -14,7 +14,7 @@ drawing-preserved g c =
     let within : c.drawing.i < length c.drawing.drawn = omega arith in
     let here : c.drawing.i + 0 ≡ c.drawing.i = omega arith in
     let word : c.next.result ≡ to_come c.args.words.now c.drawing.i =
-        c.next.ensures.word ∙ c.drawing.invariant.rest 0 ∙ ap (to_come c.args.words.now) here in
+    c.next.ensures.word ∙ c.drawing.invariant.rest 0 ∙ ap (to_come c.args.words.now) here in
     record {
       words = take_more_set c.drawing.drawn c.drawing.i c.next.result within
           ∙ ap (λ (front : List ℕ). front ++ c.next.result ∷ []) c.drawing.invariant.words
