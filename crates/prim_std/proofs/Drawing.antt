@@ -1,5 +1,5 @@
 -- One word more of those to come.
-use Rattle.std.proofs.Common.{◌≡◌, ℕ, ◌+◌, List, [], ◌∷◌, ◌++◌, refl, add-one}
+use Rattle.std.proofs.Common.{◌≡◌, ℕ, ◌+◌, [], ◌∷◌, ◌++◌, refl, add-one}
 use Rattle.prim_std.specs.Primitives.{first_words}
 
 pub first_words-more : (words : ℕ → ℕ) (n : ℕ) → first_words words (n + 1) ≡ first_words words n ++ words n ∷ []

@@ -1,5 +1,5 @@
 -- The laboratory mechanism and suite. The mechanism has no secrecy: its two keys are the same bytes.
-use Rattle.std.specs.Prelude.{ℕ, List, [], ◌∷◌, ◌++◌, take, drop, Option, Some, None, if◌then◌else◌}
+use Rattle.std.specs.Prelude.{ℕ, List, ◌∷◌, ◌++◌, take, drop, Option, Some, None, if◌then◌else◌}
 use Rattle.std.specs.Str.{bytes_eq}
 use Rattle.mix_base.specs.Suites.{KemScheme, SuiteMeaning}
 use Rattle.prim_std.specs.Primitives.{hmac, hop_keys, chacha_byte, word_bytes, first_words, lioness_encrypted, lioness_decrypted}

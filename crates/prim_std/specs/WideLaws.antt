@@ -1,8 +1,8 @@
 -- The laws of the wide block cipher: each round undoes itself, so the rounds in reverse order undo the rounds.
-use Rattle.std.specs.Prelude.{◌≡◌, ℕ, ◌<◌, List, ◌++◌, length, take, drop}
-use Rattle.std.proofs.Common.{refl, ap, sym, ◌∙◌, arith, length-take}
+use Rattle.std.specs.Prelude.{◌≡◌, ℕ, ◌<◌, List, length}
+use Rattle.std.proofs.Common.{refl, ◌∙◌, arith}
 use Rattle.std.proofs.lemmas.List.{take-append-drop, take_at, drop_at, length-take-le}
-use Rattle.mix_base.specs.ByteLists.{xor, xor_stream}
+use Rattle.mix_base.specs.ByteLists.{xor}
 use Rattle.prim_std.specs.Primitives.{hmac, chacha_byte, halves, joined, stream_round, hash_round, key_1, key_2, key_3, key_4, lioness_encrypted, lioness_decrypted}
 use Rattle.prim_std.specs.XorLaws.{xor-xor, length-xor, xor_stream-xor_stream}
 

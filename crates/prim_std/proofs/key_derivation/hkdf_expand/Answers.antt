@@ -1,4 +1,4 @@
-use Rattle.std.proofs.Common.{◌≡◌, ◌+◌, ◌*◌, ◌/◌, ◌∙◌, ap, sym, ℕ, suc, List, ◌++◌, ◌∷◌, [], length, take, refl, arith, add-one}
+use Rattle.std.proofs.Common.{◌≡◌, ◌+◌, ◌*◌, ◌/◌, ◌∙◌, ap, sym, ℕ, List, ◌++◌, [], length, take, refl, arith}
 use Rattle.std.proofs.lemmas.List.{take_all}
 use Rattle.prim_std.specs.Primitives.{hkdf_block, hkdf_blocks, hkdf_expand}
 use Rattle.prim_std.proofs.Expansion.{hkdf_block-next, hkdf_blocks-next, take-take_append}

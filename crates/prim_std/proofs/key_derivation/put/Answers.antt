@@ -1,4 +1,4 @@
-use Rattle.std.proofs.Common.{◌≡◌, ◌∙◌, ap, ℕ, List, ◌++◌, length, take, arith}
+use Rattle.std.proofs.Common.{◌∙◌, ap, ℕ, List, ◌++◌, length, take, arith}
 use Rattle.prim_std.proofs.Expansion.{take-put}
 use Rattle.prim_std.proofs.key_derivation.put.Goals as goal
 

@@ -1,6 +1,6 @@
 use Rattle.std.proofs.Common.{◌≡◌, ◌∙◌, ap, List, ℕ, [], replicate, append-nil}
 use Rattle.mix_base.specs.ByteLists.{xor}
-use Rattle.prim_std.specs.Primitives.{key_block, masked_key}
+use Rattle.prim_std.specs.Primitives.{masked_key}
 use Rattle.prim_std.proofs.hashing.Hmac.new.Goals as goal
 
 pub returns : goal.returns
