@@ -49,6 +49,7 @@ impl Kem for LabKem {
         ensures ok { lab_scheme.pair (W.to_come words.old) ≡ Some (pk.new, sk.new) }
         ensures never_refused { IsOk result }
         ensures words { GoesOn (W.to_come words.old) (W.to_come words.new) }
+        ensures eight_words { (place : ℕ) → W.to_come words.new place ≡ W.to_come words.old (8 + place) }
     {
         let mut drawn = [0; 8];
         draw(words, &mut drawn);
