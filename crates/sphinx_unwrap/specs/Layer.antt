@@ -1,6 +1,7 @@
 -- One layer of a packet, taken off with a hop's secret key: a function on whole lists. A packet is a version of
 -- two bytes, a ciphertext, the routing information, a MAC and a payload.
-use Rattle.std.specs.Prelude.{ℕ, ◌+◌, ◌-◌, ◌==◌, List, [], ◌∷◌, ◌++◌, length, drop, replicate, list_all, slice_index, slice_range, Bool, ◌&&◌, ◌||◌, Option, Some, None, Result, Ok, Err, if◌then◌else◌}
+use Rattle.std.specs.Prelude.{ℕ, ◌+◌, ◌-◌, ◌==◌, List, [], ◌∷◌, ◌++◌, length, drop, replicate, slice_index, slice_range, Bool, ◌&&◌, ◌||◌, Option, Some, None, Result, Ok, Err, if◌then◌else◌}
+use Rattle.std.specs.List.{list_all}
 use Rattle.std.specs.Option.{option_and_then, option_map, ok_or}
 use Rattle.std.specs.Str.{bytes_eq}
 use Rattle.sha2.specs.Sha256.{sha256}
@@ -72,14 +73,14 @@ abbrev pub all_zero : List ℕ → Bool
 all_zero bytes = list_all (λ byte. byte == 0) bytes
 
 -- commands that aren't read yet: a delay, a next hop, or a recipient with a reply
-abbrev pub is_later : List ℕ → Bool
-is_later commands = slice_index commands 0 == 0x80 || slice_index commands 0 == 1 || (slice_index commands 0 == 2 && slice_index commands 33 == 3)
+abbrev pub is_later : ℕ → ℕ → Bool
+is_later first behind_id = first == 0x80 || (first == 1 || (first == 2 && behind_id == 3))
 
 -- the id in commands that are a recipient alone: 2, 32 bytes of id, and zeros
 unfoldable pub recipient_of : List ℕ → Result (List ℕ) Refused
 recipient_of commands =
-  if is_later commands then Err Later
-  else (if slice_index commands 0 == 2 && all_zero (drop 33 commands) then Ok (slice_range commands 1 33) else Err Commands)
+  if is_later (slice_index commands 0) (slice_index commands 33) then Err Later
+  else (if slice_index commands 0 == 2 && all_zero (slice_range commands 33 72) then Ok (slice_range commands 1 33) else Err Commands)
 
 -- what stands in a packet under one layer
 pub record Layer : Type 0 where

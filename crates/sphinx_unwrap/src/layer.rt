@@ -1,9 +1,9 @@
 // Taking off one layer, step by step: shape, keys, routing information, commands, payload. Each step is the
 // definition of its name in specs/Layer, so the refusals come in the definition's order.
-ghost use Rattle.std.specs.Prelude.{◌≡◌, length, drop, OnOk, IfOk};
+ghost use Rattle.std.specs.Prelude.{◌≡◌, ◌+◌, length, drop, slice_range, OnOk, IfOk};
 ghost use Rattle.std.specs.Option.{ok_or};
 ghost use Rattle.sphinx_unwrap.specs.Geometry as lengths;
-ghost use Rattle.sphinx_unwrap.specs.Layer.{ciphertext_of, all_zero, hop_keys_of, is_authentic, opened, payload_of, recipient_of, shape, unhidden, unsealed};
+ghost use Rattle.sphinx_unwrap.specs.Layer.{ciphertext_of, all_zero, hop_keys_of, is_authentic, opened, payload_of, recipient_of, shape, tag_of, unhidden, unsealed};
 ghost use Rattle.sphinx_unwrap.specs.Outcome.{Gives, layer_seen};
 ghost use Rattle.sphinx_unwrap.specs.declared.fault.Refused.TheVariants.{Sealed};
 
@@ -129,22 +129,28 @@ fn unhide<S: Suite>(
     Ok(slots)
 }
 
+/// The id behind the first byte of commands.
+fn id_in(commands: &[u8]) -> [u8; 32]
+    requires { length commands.now ≡ 72 }
+    ensures { result ≡ slice_range commands.now 1 33 }
+{
+    let mut id = [0; 32];
+    id.copy_from_slice(&commands[1..33]);
+    id
+}
+
 /// The recipient that commands name, 72 bytes.
 #[tactic(auto, unfolding(crate::specs::Layer::recipient_of))]
 fn read_recipient(commands: &[u8]) -> Result<[u8; 32], Refused>
     requires { length commands.now ≡ 72 }
     ensures { result ≡ recipient_of commands.now }
 {
-    let first = commands[0];
-    if first == 0x80 || first == 1 || (first == 2 && commands[33] == 3) {
-        return Err(Refused::Later);
+    match commands[0] {
+        0x80 | 1 => Err(Refused::Later),
+        2 if commands[33] == 3 => Err(Refused::Later),
+        2 if is_zero(&commands[33..72]) => Ok(id_in(commands)),
+        _ => Err(Refused::Commands),
     }
-    if first != 2 || !is_zero(&commands[33..]) {
-        return Err(Refused::Commands);
-    }
-    let mut id = [0; 32];
-    id.copy_from_slice(&commands[1..33]);
-    Ok(id)
 }
 
 /// The payload after one decryption.
@@ -174,6 +180,7 @@ pub fn open_layer<S: Suite>(
     requires ciphertext_length { geo.now.ct ≡ S.K.CT }
     requires secret_length { length sk.now ≡ S.K.SK }
     ensures exact { Gives (layer_seen geo.now) result (opened S.meaning geo.now sk.now packet.now) }
+    ensures tag { IfOk result (λ layer. layer.tag ≡ tag_of geo.now packet.now) }
     ensures payload { IfOk result (λ layer. length layer.payload.items ≡ lengths.payload geo.now) }
 {
     check_shape(geo, packet)?;

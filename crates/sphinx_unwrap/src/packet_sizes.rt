@@ -77,42 +77,48 @@ impl Geometry {
 
     /// The length of one hop's part of the routing information: a ciphertext and 72 bytes of commands.
     pub fn slot(&self) -> usize
-        ensures { result ≡ lengths.slot self.now }
+        ensures value { result ≡ lengths.slot self.now }
+        ensures most { result ≤ 4168 }
     {
         self.ct + 72
     }
 
     /// The length of the routing information: a slot for each hop.
     pub fn routing(&self) -> usize
-        ensures { result ≡ lengths.routing self.now }
+        ensures value { result ≡ lengths.routing self.now }
+        ensures most { result ≤ 20840 }
     {
         self.hops * self.slot()
     }
 
     /// The length of a header: version, ciphertext, routing information and MAC.
     pub fn header(&self) -> usize
-        ensures { result ≡ lengths.header self.now }
+        ensures value { result ≡ lengths.header self.now }
+        ensures most { result ≤ 24970 }
     {
         2 + self.ct + self.routing() + 32
     }
 
     /// The length of a reply block: a header, the id of its first hop and a key of 128 bytes.
     pub fn block(&self) -> usize
-        ensures { result ≡ lengths.block self.now }
+        ensures value { result ≡ lengths.block self.now }
+        ensures most { result ≤ 25130 }
     {
         self.header() + 32 + 128
     }
 
     /// The length of a payload: zeros, flag, the room of a block, and the body.
     pub fn payload(&self) -> usize
-        ensures { result ≡ lengths.payload self.now }
+        ensures value { result ≡ lengths.payload self.now }
+        ensures most { result ≤ 29260 }
     {
         32 + 2 + self.block() + self.body
     }
 
     /// The length of a packet: header and payload.
     pub fn packet(&self) -> usize
-        ensures { result ≡ lengths.packet self.now }
+        ensures value { result ≡ lengths.packet self.now }
+        ensures most { result ≤ 54230 }
     {
         self.header() + self.payload()
     }
