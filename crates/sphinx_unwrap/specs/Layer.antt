@@ -46,7 +46,7 @@ tag_of sizes packet = sha256 (ciphertext_of sizes packet)
 -- a packet has the length of the geometry, and version 0
 unfoldable pub shape : Sizes → List ℕ → Result (Unit {0}) Refused
 shape sizes packet =
-  if length packet == lengths.packet sizes
+    if length packet == lengths.packet sizes
     then (if bytes_eq (slice_range packet 0 2) (0 ∷ 0 ∷ []) then Ok tt else Err Version)
     else Err Length
 
@@ -61,12 +61,16 @@ is_authentic suite sizes packet keys = bytes_eq (suite.mac keys.mac (authenticat
 -- the hop's keys, where the secret key opens the packet: the ciphertext decapsulates, and the MAC is true
 unfoldable pub unsealed : SuiteMeaning → Sizes → List ℕ → List ℕ → Option HopKeys
 unsealed suite sizes sk packet =
-  option_and_then (λ keys. if is_authentic suite sizes packet keys then Some keys else None) (hop_keys_of suite sizes sk packet)
+    option_and_then (λ keys. if is_authentic suite sizes packet keys then Some keys else None) (hop_keys_of suite sizes sk packet)
 
 -- the routing information with a slot of zeros behind it, under the hop's stream: this hop's slot, and behind it
 -- the next hop's routing information
 unfoldable pub unhidden : SuiteMeaning → Sizes → HopKeys → List ℕ → List ℕ
 unhidden suite sizes keys packet = xor_stream (suite.stream keys.stream) 0 (routing_of sizes packet ++ replicate (slot sizes) 0)
+
+-- the payload after one decryption under the hop's keys
+abbrev pub payload_under : SuiteMeaning → Sizes → List ℕ → HopKeys → List ℕ
+payload_under suite sizes packet keys = suite.decrypt keys.wide (payload_of sizes packet)
 
 -- all of the bytes are zero
 abbrev pub all_zero : List ℕ → Bool
@@ -79,8 +83,8 @@ is_later first behind_id = first == 0x80 || (first == 1 || (first == 2 && behind
 -- the id in commands that are a recipient alone: 2, 32 bytes of id, and zeros
 unfoldable pub recipient_of : List ℕ → Result (List ℕ) Refused
 recipient_of commands =
-  if is_later (slice_index commands 0) (slice_index commands 33) then Err Later
-  else (if slice_index commands 0 == 2 && all_zero (slice_range commands 33 72) then Ok (slice_range commands 1 33) else Err Commands)
+    if is_later (slice_index commands 0) (slice_index commands 33) then Err Later
+    else (if slice_index commands 0 == 2 && all_zero (slice_range commands 33 72) then Ok (slice_range commands 1 33) else Err Commands)
 
 -- what stands in a packet under one layer
 pub record Layer : Type 0 where
@@ -90,7 +94,6 @@ pub record Layer : Type 0 where
   -- what goes on to a next hop
   pub next_ciphertext : List ℕ
   pub next_routing : List ℕ
-  -- the payload after one decryption
   pub payload : List ℕ
 
 -- the commands of a slot, behind the next ciphertext
@@ -106,7 +109,7 @@ layer_of suite sizes packet keys = do
     recipient = recipient;
     next_ciphertext = slice_range (unhidden suite sizes keys packet) 0 sizes.ct;
     next_routing = drop (slot sizes) (unhidden suite sizes keys packet);
-    payload = suite.decrypt keys.wide (payload_of sizes packet)
+    payload = payload_under suite sizes packet keys;
   })
 
 -- the layer under a secret key, or the first refusal

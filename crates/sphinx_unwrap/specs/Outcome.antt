@@ -1,9 +1,9 @@
 -- What goes out of a layer, and what unwrapping answers.
-use Rattle.std.specs.Prelude.{◌≡◌, ℕ, List, drop, slice_range, Option, Some, None, Result, Ok, Err}
+use Rattle.std.specs.Prelude.{◌≡◌, ◌≢◌, ℕ, List, drop, slice_range, Option, Some, None, Result, Ok, Err}
 use Rattle.mix_base.specs.Suites.{SuiteMeaning}
 use Rattle.sphinx_unwrap.specs.Geometry.{Sizes, slot}
 use Rattle.sphinx_unwrap.specs.Layer.{Layer, opened, ◌>>=◌}
-use Rattle.sphinx_unwrap.specs.Payload.{read_block, body_of}
+use Rattle.sphinx_unwrap.specs.Payload.{spell, HasRoom, read_block, body_of}
 use Rattle.sphinx_unwrap.specs.declared.fault.Refused.{Refused}
 use Rattle.sphinx_unwrap.specs.declared.fault.UnwrapFault.{UnwrapFault}
 use Rattle.sphinx_unwrap.specs.declared.fault.UnwrapFault.TheVariants as faults
@@ -27,6 +27,12 @@ unwrapped suite sizes sk packet = do
   layer ← opened suite sizes sk packet
   Ok (record { tag = layer.tag; delay = None; out = out sizes layer })
 
+-- in other words: what a recipient gets is what the payload spells, and Damaged where it spells nothing
+abbrev pub Says : Sizes → List ℕ → Out → Type 0
+Says sizes payload (Deliver recipient body reply_block) = payload ≡ spell sizes reply_block body
+Says sizes payload (Damaged recipient) = (reply_block : Option (List ℕ)) (body : List ℕ) → HasRoom sizes reply_block → payload ≢ spell sizes reply_block body
+Says sizes payload _ = Unit {0}
+
 -- a layer, without where its buffers lie
 abbrev pub layer_seen : Sizes → OpenLayer → Layer
 layer_seen sizes layer = record {
@@ -34,7 +40,7 @@ layer_seen sizes layer = record {
   recipient = layer.recipient;
   next_ciphertext = slice_range layer.slots.items 0 sizes.ct;
   next_routing = drop (slot sizes) layer.slots.items;
-  payload = layer.payload.items
+  payload = layer.payload.items;
 }
 
 -- an answer, seen by view, is a definition's, unless memory ran out

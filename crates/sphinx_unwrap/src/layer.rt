@@ -1,9 +1,9 @@
 // Taking off one layer, step by step: shape, keys, routing information, commands, payload. Each step is the
 // definition of its name in specs/Layer, so the refusals come in the definition's order.
-ghost use Rattle.std.specs.Prelude.{◌≡◌, ◌+◌, length, drop, slice_range, OnOk, IfOk};
+ghost use Rattle.std.specs.Prelude.{◌≡◌, ◌+◌, length, drop, slice_range, OnOk, IfOk, IsSomeAnd};
 ghost use Rattle.std.specs.Option.{ok_or};
 ghost use Rattle.sphinx_unwrap.specs.Geometry as lengths;
-ghost use Rattle.sphinx_unwrap.specs.Layer.{ciphertext_of, all_zero, hop_keys_of, is_authentic, opened, payload_of, recipient_of, shape, tag_of, unhidden, unsealed};
+ghost use Rattle.sphinx_unwrap.specs.Layer.{ciphertext_of, all_zero, hop_keys_of, is_authentic, opened, payload_under, recipient_of, shape, tag_of, unhidden, unsealed};
 ghost use Rattle.sphinx_unwrap.specs.Outcome.{Gives, layer_seen};
 ghost use Rattle.sphinx_unwrap.specs.declared.fault.Refused.TheVariants.{Sealed};
 
@@ -161,7 +161,7 @@ fn decrypt_payload<S: Suite>(
     packet: &[u8],
 ) -> Result<Vec<u8>, AllocError>
     requires { length packet.now ≡ lengths.packet geo.now }
-    ensures value { IfOk result (λ payload. payload.items ≡ S.meaning.decrypt keys.now.wide (payload_of geo.now packet.now)) }
+    ensures value { IfOk result (λ payload. payload.items ≡ payload_under S.meaning geo.now packet.now keys.now) }
     ensures length { IfOk result (λ payload. length payload.items ≡ lengths.payload geo.now) }
 {
     let mut payload = Vec::from_slice(alloc, &packet[geo.header()..])?;
@@ -181,7 +181,8 @@ pub fn open_layer<S: Suite>(
     requires secret_length { length sk.now ≡ S.K.SK }
     ensures exact { Gives (layer_seen geo.now) result (opened S.meaning geo.now sk.now packet.now) }
     ensures tag { IfOk result (λ layer. layer.tag ≡ tag_of geo.now packet.now) }
-    ensures payload { IfOk result (λ layer. length layer.payload.items ≡ lengths.payload geo.now) }
+    ensures payload { IfOk result (λ layer. IsSomeAnd (unsealed S.meaning geo.now sk.now packet.now) (λ keys. layer.payload.items ≡ payload_under S.meaning geo.now packet.now keys)) }
+    ensures length { IfOk result (λ layer. length layer.payload.items ≡ lengths.payload geo.now) }
 {
     check_shape(geo, packet)?;
     let keys = unseal::<S>(alloc, geo, sk, packet)?;

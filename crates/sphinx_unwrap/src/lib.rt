@@ -3,12 +3,12 @@
 #![tactic(auto)]
 
 mod fault;
-mod packet_sizes;
-mod outcome;
 mod layer;
+mod outcome;
+mod packet_sizes;
 mod unwrapping;
 
 pub use fault::{Refused, UnwrapFault};
-pub use packet_sizes::{Geometry, GeometryFault};
 pub use outcome::{Opened, Out};
+pub use packet_sizes::{Geometry, GeometryFault};
 pub use unwrapping::unwrap;

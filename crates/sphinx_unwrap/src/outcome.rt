@@ -5,7 +5,10 @@ use mix_base::Bytes;
 #[derive(Drop)]
 pub enum Out {
     /// To the next hop: its id, and its packet.
-    Forward { next: [u8; 32], packet: Bytes },
+    Forward {
+        next: [u8; 32],
+        packet: Bytes,
+    },
     /// To a recipient: a body, and the reply block that came with it, if any.
     Deliver {
         recipient: [u8; 32],
@@ -19,7 +22,9 @@ pub enum Out {
         payload: Bytes,
     },
     /// To a recipient, but the payload isn't one that a maker spells.
-    Damaged { recipient: [u8; 32] },
+    Damaged {
+        recipient: [u8; 32],
+    },
 }
 
 /// An unwrapped packet.

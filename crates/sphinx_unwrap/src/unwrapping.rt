@@ -1,9 +1,9 @@
 // Unwrapping: a layer is taken off, and what goes out of it is made.
-ghost use Rattle.std.specs.Prelude.{◌≡◌, length, IfOk, option_map};
+ghost use Rattle.std.specs.Prelude.{◌≡◌, length, IfOk, IsSomeAnd, option_map};
 ghost use Rattle.std.specs.Option.{option_copied};
 ghost use Rattle.sphinx_unwrap.specs.Geometry as lengths;
-ghost use Rattle.sphinx_unwrap.specs.Layer.{tag_of};
-ghost use Rattle.sphinx_unwrap.specs.Outcome.{Gives, received, unwrapped};
+ghost use Rattle.sphinx_unwrap.specs.Layer.{payload_under, tag_of, unsealed};
+ghost use Rattle.sphinx_unwrap.specs.Outcome.{Gives, Says, received, unwrapped};
 ghost use Rattle.sphinx_unwrap.specs.Payload.{body_of, read_block};
 
 use crate::layer::{is_zero, open_layer};
@@ -53,7 +53,11 @@ fn receive(
         Some(block) => Some(owned(alloc, block)?),
         None => None,
     };
-    Ok(Out::Deliver { recipient, body, block })
+    Ok(Out::Deliver {
+        recipient,
+        body,
+        block,
+    })
 }
 
 /// Unwraps a packet with a hop's secret key. Asks a geometry of the suite's ciphertext, and a secret key of the
@@ -69,6 +73,8 @@ pub fn unwrap<S: Suite>(
     requires secret_length { length sk.now ≡ S.K.SK }
     ensures exact { Gives (λ opened. opened) result (unwrapped S.meaning geo.now sk.now packet.now) }
     ensures tag { IfOk result (λ opened. opened.tag ≡ tag_of geo.now packet.now) }
+    // The secret key opens the packet, and what goes to a recipient is what the payload under the keys spells.
+    ensures says { IfOk result (λ opened. IsSomeAnd (unsealed S.meaning geo.now sk.now packet.now) (λ keys. Says geo.now (payload_under S.meaning geo.now packet.now keys) opened.out)) }
 {
     let layer = open_layer::<S>(alloc, geo, sk, packet)?;
     let out = receive(alloc, geo, layer.recipient, &layer.payload)?;
