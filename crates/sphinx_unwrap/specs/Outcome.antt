@@ -27,7 +27,7 @@ unwrapped suite sizes sk packet = do
   layer ← opened suite sizes sk packet
   Ok (record { tag = layer.tag; delay = None; out = out sizes layer })
 
--- in other words: what a recipient gets is what the payload spells, and Damaged where it spells nothing
+-- in other words: a recipient gets what the payload spells, and Damaged only where it spells nothing
 abbrev pub Says : Sizes → List ℕ → Out → Type 0
 Says sizes payload (Deliver recipient body reply_block) = payload ≡ spell sizes reply_block body
 Says sizes payload (Damaged recipient) = (reply_block : Option (List ℕ)) (body : List ℕ) → HasRoom sizes reply_block → payload ≢ spell sizes reply_block body
@@ -44,7 +44,11 @@ layer_seen sizes layer = record {
 }
 
 -- an answer, seen by view, is a definition's, unless memory ran out
-abbrev pub Gives : {X Y : Type 0} → (X → Y) → Result X UnwrapFault → Result Y Refused → Type 0
-Gives view (Ok x) value = value ≡ Ok (view x)
-Gives view (Err faults.Memory) value = Unit {0}
-Gives view (Err (faults.Refused why)) value = value ≡ Err why
+abbrev pub GivesAs : {X Y : Type 0} → (X → Y) → Result X UnwrapFault → Result Y Refused → Type 0
+GivesAs view (Ok x) value = value ≡ Ok (view x)
+GivesAs view (Err faults.Memory) value = Unit {0}
+GivesAs view (Err (faults.Refused why)) value = value ≡ Err why
+
+-- an answer is a definition's, unless memory ran out
+abbrev pub Gives : {X : Type 0} → Result X UnwrapFault → Result X Refused → Type 0
+Gives result value = GivesAs (λ x. x) result value

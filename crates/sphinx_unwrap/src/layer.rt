@@ -4,7 +4,7 @@ ghost use Rattle.std.specs.Prelude.{◌≡◌, ◌+◌, length, drop, slice_rang
 ghost use Rattle.std.specs.Option.{ok_or};
 ghost use Rattle.sphinx_unwrap.specs.Geometry as lengths;
 ghost use Rattle.sphinx_unwrap.specs.Layer.{ciphertext_of, all_zero, hop_keys_of, is_authentic, opened, payload_under, recipient_of, shape, tag_of, unhidden, unsealed};
-ghost use Rattle.sphinx_unwrap.specs.Outcome.{Gives, layer_seen};
+ghost use Rattle.sphinx_unwrap.specs.Outcome.{Gives, GivesAs, layer_seen};
 ghost use Rattle.sphinx_unwrap.specs.declared.fault.Refused.TheVariants.{Sealed};
 
 use crate::{Geometry, Refused, UnwrapFault};
@@ -67,7 +67,7 @@ fn hop_keys<S: Suite>(
     requires ciphertext_length { geo.now.ct ≡ S.K.CT }
     requires secret_length { length sk.now ≡ S.K.SK }
     requires whole { length packet.now ≡ lengths.packet geo.now }
-    ensures { Gives (λ keys. keys) result (ok_or (hop_keys_of S.meaning geo.now sk.now packet.now) Sealed) }
+    ensures { Gives result (ok_or (hop_keys_of S.meaning geo.now sk.now packet.now) Sealed) }
 {
     let mut secret = [0; 32];
     if S::K::decap(alloc, sk, ciphertext(geo, packet), &mut secret)? {
@@ -99,7 +99,7 @@ fn unseal<S: Suite>(
     requires ciphertext_length { geo.now.ct ≡ S.K.CT }
     requires secret_length { length sk.now ≡ S.K.SK }
     requires whole { length packet.now ≡ lengths.packet geo.now }
-    ensures { Gives (λ keys. keys) result (ok_or (unsealed S.meaning geo.now sk.now packet.now) Sealed) }
+    ensures { Gives result (ok_or (unsealed S.meaning geo.now sk.now packet.now) Sealed) }
 {
     let keys = hop_keys::<S>(alloc, geo, sk, packet)?;
     if has_true_mac::<S>(geo, &keys, packet) {
@@ -179,7 +179,7 @@ pub fn open_layer<S: Suite>(
 ) -> Result<OpenLayer, UnwrapFault>
     requires ciphertext_length { geo.now.ct ≡ S.K.CT }
     requires secret_length { length sk.now ≡ S.K.SK }
-    ensures exact { Gives (layer_seen geo.now) result (opened S.meaning geo.now sk.now packet.now) }
+    ensures exact { GivesAs (layer_seen geo.now) result (opened S.meaning geo.now sk.now packet.now) }
     ensures tag { IfOk result (λ layer. layer.tag ≡ tag_of geo.now packet.now) }
     ensures payload { IfOk result (λ layer. IsSomeAnd (unsealed S.meaning geo.now sk.now packet.now) (λ keys. layer.payload.items ≡ payload_under S.meaning geo.now packet.now keys)) }
     ensures length { IfOk result (λ layer. length layer.payload.items ≡ lengths.payload geo.now) }

@@ -6,6 +6,8 @@ mod fault;
 mod layer;
 mod outcome;
 mod packet_sizes;
+#[cfg(test)]
+mod tests;
 mod unwrapping;
 
 pub use fault::{Refused, UnwrapFault};

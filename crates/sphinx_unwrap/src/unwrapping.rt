@@ -71,7 +71,7 @@ pub fn unwrap<S: Suite>(
 ) -> Result<Opened, UnwrapFault>
     requires ciphertext_length { geo.now.ct ≡ S.K.CT }
     requires secret_length { length sk.now ≡ S.K.SK }
-    ensures exact { Gives (λ opened. opened) result (unwrapped S.meaning geo.now sk.now packet.now) }
+    ensures exact { Gives result (unwrapped S.meaning geo.now sk.now packet.now) }
     ensures tag { IfOk result (λ opened. opened.tag ≡ tag_of geo.now packet.now) }
     // The secret key opens the packet, and what goes to a recipient is what the payload under the keys spells.
     ensures says { IfOk result (λ opened. IsSomeAnd (unsealed S.meaning geo.now sk.now packet.now) (λ keys. Says geo.now (payload_under S.meaning geo.now packet.now keys) opened.out)) }
