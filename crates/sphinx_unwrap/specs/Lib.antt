@@ -1,0 +1,4 @@
+pub mod Geometry
+pub mod Layer
+pub mod Outcome
+pub mod Payload

@@ -1,0 +1,199 @@
+// Taking off one layer, step by step: shape, keys, routing information, commands, payload. Each step is the
+// definition of its name in specs/Layer, so the refusals come in the definition's order.
+ghost use Rattle.std.specs.Prelude.{◌≡◌, ◌+◌, length, drop, slice_range, OnOk, IfOk, IsSomeAnd};
+ghost use Rattle.std.specs.Option.{ok_or};
+ghost use Rattle.sphinx_unwrap.specs.Geometry as lengths;
+ghost use Rattle.sphinx_unwrap.specs.Layer.{ciphertext_of, all_zero, hop_keys_of, is_authentic, opened, payload_under, recipient_of, shape, tag_of, unhidden, unsealed};
+ghost use Rattle.sphinx_unwrap.specs.Outcome.{Gives, GivesAs, layer_seen};
+ghost use Rattle.sphinx_unwrap.specs.declared.fault.Refused.TheVariants.{Sealed};
+
+use crate::{Geometry, Refused, UnwrapFault};
+use mix_base::{HopKeys, Kdf, Kem, Mac, Stream, Suite, Wide};
+use sha2::{Digest, Sha256};
+use std::alloc::{AllocError, Global};
+
+/// A layer that was taken off, in two buffers.
+#[derive(Drop)]
+pub struct OpenLayer {
+    /// The replay tag.
+    pub tag: [u8; 32],
+    /// The commands: a recipient's id.
+    pub recipient: [u8; 32],
+    /// This hop's slot, and behind it the next hop's routing information.
+    pub slots: Vec<u8>,
+    /// The payload after one decryption.
+    pub payload: Vec<u8>,
+}
+
+/// Whether all bytes are zero.
+pub fn is_zero(bytes: &[u8]) -> bool
+    ensures { result ≡ all_zero bytes.now }
+{
+    bytes.iter().all(|byte| *byte == 0)
+}
+
+/// The first two refusals: another length than the geometry's, and another version than 0.
+#[tactic(auto, unfolding(crate::specs::Layer::shape))]
+fn check_shape(geo: &Geometry, packet: &[u8]) -> Result<(), Refused>
+    ensures exact { result ≡ shape geo.now packet.now }
+    ensures whole { OnOk result (length packet.now ≡ lengths.packet geo.now) }
+{
+    if packet.len() != geo.packet() {
+        return Err(Refused::Length);
+    }
+    if packet[..2] != [0, 0] {
+        return Err(Refused::Version);
+    }
+    Ok(())
+}
+
+/// A packet's ciphertext.
+fn ciphertext<'a>(geo: &Geometry, packet: &'a [u8]) -> &'a [u8]
+    requires { length packet.now ≡ lengths.packet geo.now }
+    ensures value { result.now ≡ ciphertext_of geo.now packet.now }
+    ensures length { length result.now ≡ geo.now.ct }
+{
+    &packet[2..2 + geo.ct()]
+}
+
+/// The keys of this hop, whether or not the MAC is true under them.
+#[tactic(auto, unfolding(crate::specs::Layer::hop_keys_of))]
+fn hop_keys<S: Suite>(
+    alloc: Global,
+    geo: &Geometry,
+    sk: &[u8],
+    packet: &[u8],
+) -> Result<HopKeys, UnwrapFault>
+    requires ciphertext_length { geo.now.ct ≡ S.K.CT }
+    requires secret_length { length sk.now ≡ S.K.SK }
+    requires whole { length packet.now ≡ lengths.packet geo.now }
+    ensures { Gives result (ok_or (hop_keys_of S.meaning geo.now sk.now packet.now) Sealed) }
+{
+    let mut secret = [0; 32];
+    if S::K::decap(alloc, sk, ciphertext(geo, packet), &mut secret)? {
+        Ok(S::D::expand(&secret))
+    } else {
+        Err(UnwrapFault::Refused(Refused::Sealed))
+    }
+}
+
+/// Whether the header's MAC is true under these keys.
+#[tactic(auto, unfolding(crate::specs::Layer::is_authentic))]
+fn has_true_mac<S: Suite>(geo: &Geometry, keys: &HopKeys, packet: &[u8]) -> bool
+    requires { length packet.now ≡ lengths.packet geo.now }
+    ensures { result ≡ is_authentic S.meaning geo.now packet.now keys.now }
+{
+    let mac_at = geo.header() - 32;
+    let code = S::M::tag(&keys.mac, &packet[..mac_at]);
+    code.as_slice() == &packet[mac_at..geo.header()]
+}
+
+/// The keys of this hop, where the secret key opens the packet.
+#[tactic(auto, unfolding(crate::specs::Layer::unsealed))]
+fn unseal<S: Suite>(
+    alloc: Global,
+    geo: &Geometry,
+    sk: &[u8],
+    packet: &[u8],
+) -> Result<HopKeys, UnwrapFault>
+    requires ciphertext_length { geo.now.ct ≡ S.K.CT }
+    requires secret_length { length sk.now ≡ S.K.SK }
+    requires whole { length packet.now ≡ lengths.packet geo.now }
+    ensures { Gives result (ok_or (unsealed S.meaning geo.now sk.now packet.now) Sealed) }
+{
+    let keys = hop_keys::<S>(alloc, geo, sk, packet)?;
+    if has_true_mac::<S>(geo, &keys, packet) {
+        Ok(keys)
+    } else {
+        Err(UnwrapFault::Refused(Refused::Sealed))
+    }
+}
+
+/// The routing information and a slot of zeros, under the hop's stream.
+#[tactic(auto, unfolding(crate::specs::Layer::unhidden))]
+fn unhide<S: Suite>(
+    alloc: Global,
+    geo: &Geometry,
+    keys: &HopKeys,
+    packet: &[u8],
+) -> Result<Vec<u8>, AllocError>
+    requires { length packet.now ≡ lengths.packet geo.now }
+    ensures value { IfOk result (λ slots. slots.items ≡ unhidden S.meaning geo.now keys.now packet.now) }
+    ensures length { IfOk result (λ slots. length slots.items ≡ lengths.routing geo.now + lengths.slot geo.now) }
+{
+    let whole = geo.routing() + geo.slot();
+    let mut slots = Vec::with_capacity(alloc, whole)?;
+    slots.extend_from_slice(&packet[2 + geo.ct()..geo.header() - 32])?;
+    slots.resize(whole, 0)?;
+    S::C::xor(&keys.stream, &mut slots);
+    Ok(slots)
+}
+
+/// The id behind the first byte of commands.
+fn id_in(commands: &[u8]) -> [u8; 32]
+    requires { length commands.now ≡ 72 }
+    ensures { result ≡ slice_range commands.now 1 33 }
+{
+    let mut id = [0; 32];
+    id.copy_from_slice(&commands[1..33]);
+    id
+}
+
+/// The recipient that commands name, 72 bytes.
+#[tactic(auto, unfolding(crate::specs::Layer::recipient_of))]
+fn read_recipient(commands: &[u8]) -> Result<[u8; 32], Refused>
+    requires { length commands.now ≡ 72 }
+    ensures { result ≡ recipient_of commands.now }
+{
+    match commands[0] {
+        0x80 | 1 => Err(Refused::Later),
+        2 if commands[33] == 3 => Err(Refused::Later),
+        2 if is_zero(&commands[33..72]) => Ok(id_in(commands)),
+        _ => Err(Refused::Commands),
+    }
+}
+
+/// The payload after one decryption.
+fn decrypt_payload<S: Suite>(
+    alloc: Global,
+    geo: &Geometry,
+    keys: &HopKeys,
+    packet: &[u8],
+) -> Result<Vec<u8>, AllocError>
+    requires { length packet.now ≡ lengths.packet geo.now }
+    ensures value { IfOk result (λ payload. payload.items ≡ payload_under S.meaning geo.now packet.now keys.now) }
+    ensures length { IfOk result (λ payload. length payload.items ≡ lengths.payload geo.now) }
+{
+    let mut payload = Vec::from_slice(alloc, &packet[geo.header()..])?;
+    S::W::decrypt(&keys.wide, &mut payload);
+    Ok(payload)
+}
+
+/// The layer under a secret key.
+#[tactic(auto, unfolding(crate::specs::Layer::opened, crate::specs::Layer::layer_of))]
+pub fn open_layer<S: Suite>(
+    alloc: Global,
+    geo: &Geometry,
+    sk: &[u8],
+    packet: &[u8],
+) -> Result<OpenLayer, UnwrapFault>
+    requires ciphertext_length { geo.now.ct ≡ S.K.CT }
+    requires secret_length { length sk.now ≡ S.K.SK }
+    ensures exact { GivesAs (layer_seen geo.now) result (opened S.meaning geo.now sk.now packet.now) }
+    ensures tag { IfOk result (λ layer. layer.tag ≡ tag_of geo.now packet.now) }
+    ensures payload { IfOk result (λ layer. IsSomeAnd (unsealed S.meaning geo.now sk.now packet.now) (λ keys. layer.payload.items ≡ payload_under S.meaning geo.now packet.now keys)) }
+    ensures length { IfOk result (λ layer. length layer.payload.items ≡ lengths.payload geo.now) }
+{
+    check_shape(geo, packet)?;
+    let keys = unseal::<S>(alloc, geo, sk, packet)?;
+    let slots = unhide::<S>(alloc, geo, &keys, packet)?;
+    let recipient = read_recipient(&slots[geo.ct()..geo.slot()])?;
+    let payload = decrypt_payload::<S>(alloc, geo, &keys, packet)?;
+    let tag = Sha256::digest(ciphertext(geo, packet));
+    Ok(OpenLayer {
+        tag,
+        recipient,
+        slots,
+        payload,
+    })
+}

@@ -1,0 +1,16 @@
+// One layer of a Sphinx packet, taken off with a hop's secret key: either what the hop hands on, or the first
+// refusal. Both are exactly those of the definitions in specs/, for every packet and every suite.
+#![tactic(auto)]
+
+mod fault;
+mod layer;
+mod outcome;
+mod packet_sizes;
+#[cfg(test)]
+mod tests;
+mod unwrapping;
+
+pub use fault::{Refused, UnwrapFault};
+pub use outcome::{Opened, Out};
+pub use packet_sizes::{Geometry, GeometryFault};
+pub use unwrapping::unwrap;
