@@ -113,11 +113,13 @@ impl<I: Source> LineReader<I> {
         ensures same_reference { I.reference (source_of self.new) ≡ I.reference (source_of self.old) }
     {
         'blocks: loop {
-            if let Some(length) = memchr(LINE_FEED, &self.block[self.place..self.end]) {
-                let line = self.take_line(alloc, length)?;
-                return Ok(Some(line));
+            match memchr(LINE_FEED, &self.block[self.place..self.end]) {
+                Some(length) => {
+                    let line = self.take_line(alloc, length)?;
+                    return Ok(Some(line));
+                }
+                None => self.keep_block()?,
             }
-            self.keep_block()?;
             if !self.read_block(alloc)? {
                 return Ok(self.take_rest(alloc));
             }
