@@ -85,7 +85,10 @@ fn read_digits(word: &[u8]) -> Option<u64>
         if !byte.is_ascii_digit() {
             return None;
         }
-        value = append_digit(value, *byte - b'0')?;
+        match append_digit(value, *byte - b'0') {
+            Some(longer) => value = longer,
+            None => return None,
+        }
     }
     Some(value)
 }
