@@ -1,12 +1,13 @@
 // How a run ends: the statuses, with their exit codes and the texts for standard error.
-ghost use Rattle.std.specs.Prelude.{◌≡◌, ◌≤◌, [], ◌∷◌, ◌++◌, Some, OnOk, OnErr, IfSome, IsSomeAnd, IsErrOf};
+ghost use Rattle.std.specs.Prelude.{◌≡◌, ◌≤◌, [], ◌∷◌, ◌++◌, Some, IfOk, OnOk, OnErr, IfSome, IsSomeAnd, IsErrOf};
 ghost use Rattle.std.specs.Fmt.{decimal};
+ghost use Rattle.std.specs.String.{string_bytes};
 ghost use Rattle.mix_base.specs.Faults.{Rose};
 ghost use Rattle.mix_base.specs.Writing.{GivesFront};
 ghost use Rattle.mix_top.specs.Statuses.{code_of, text_of};
 
 use mix_base::{PutFault, Sink};
-use std::alloc::Global;
+use std::alloc::{AllocError, Global};
 
 /// How a run ends.
 #[derive(Clone, Copy, Debug, PartialEq, Eq)]
@@ -68,6 +69,15 @@ fn write_line<O: Sink>(alloc: Global, sink: &mut O, text: &str, line: u64) -> Re
     ensures fault { IsErrOf result PutFault.WriteFault → Rose (O.faults sink.old) (O.faults sink.new) }
     ensures count { O.faults sink.old ≤ O.faults sink.new }
 {
-    let piece = format!(in alloc; "{text}{line}\n")?;
-    sink.put(alloc, piece.as_bytes())
+    match line_text(alloc, text, line) {
+        Ok(piece) => sink.put(alloc, piece.as_bytes()),
+        Err(_) => Err(PutFault::Memory),
+    }
+}
+
+// A text, the number of a line and a line feed.
+fn line_text(alloc: Global, text: &str, line: u64) -> Result<String, AllocError>
+    ensures { IfOk result (λ piece. string_bytes piece ≡ text.now ++ decimal line ++ 10 ∷ []) }
+{
+    format!(in alloc; "{text}{line}\n")
 }

@@ -1,6 +1,6 @@
 // The words of a line and what they say: numbers, and bytes in hexadecimal digits. Each reader answers exactly what
 // its definition has, and None where that has nothing.
-ghost use Rattle.std.specs.Prelude.{◌≡◌, ◌+◌, ◌*◌, ◌^◌, ◌<◌, ◌≤◌, ◌∷◌, [], length, take, drop, slice_index, Some, true, false, IfOk, IfSome, IfNone, SomeIff, MatchOption, option_map};
+ghost use Rattle.std.specs.Prelude.{◌≡◌, ◌+◌, ◌*◌, ◌^◌, ◌<◌, ◌≤◌, ◌∷◌, [], length, take, drop, slice_index, Some, true, false, IfOk, IfSome, IfNone, MatchOption, option_map};
 ghost use Rattle.mix_top.specs.Words.{words_of, is_blank, number_of, number_in, bytes_of, seed_of};
 
 use hex::{FromHex, FromHexError};
@@ -95,7 +95,8 @@ fn read_digits(word: &[u8]) -> Option<u64>
 
 // A number with one digit more behind it, where it is below 2^64.
 fn append_digit(value: u64, digit: u8) -> Option<u64>
-    ensures { SomeIff result (value * 10 + digit < 2 ^ 64) (value * 10 + digit) }
+    ensures some { IfSome result (λ longer. longer ≡ value * 10 + digit) }
+    ensures none { IfNone result (2 ^ 64 ≤ value * 10 + digit) }
 {
     value.checked_mul(10)?.checked_add(u64::from(digit))
 }
