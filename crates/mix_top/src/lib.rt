@@ -9,3 +9,6 @@ mod words;
 pub use lines::{LineFault, LineReader};
 pub use script::{Event, NodeLine, is_skipped, read_event, read_node};
 pub use statuses::{Status, code, write_status};
+
+#[cfg(test)]
+mod tests;

@@ -178,9 +178,8 @@ impl<I: Source> LineReader<I> {
     {
         let text = self.line.len() + (self.end - self.place);
         if passes_limit(text, self.used + text as u64) {
-            return Err(LineFault::BadLine {
-                number: self.number + 1,
-            });
+            let number = self.number + 1;
+            return Err(LineFault::BadLine { number });
         }
         self.line
             .extend_from_slice(&self.block[self.place..self.end])?;

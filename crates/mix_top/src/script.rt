@@ -100,11 +100,17 @@ fn without_packet_event(first: &[u8], rest: &[u8]) -> Option<Event>
     ensures { result ≡ without_packet first.now (words_of rest.now) }
 {
     if first == b"peel".as_slice() {
-        Some(Event::Peel { worker: worker(rest)? })
+        Some(Event::Peel {
+            worker: worker(rest)?,
+        })
     } else if first == b"claim".as_slice() {
-        Some(Event::Claim { worker: worker(rest)? })
+        Some(Event::Claim {
+            worker: worker(rest)?,
+        })
     } else if first == b"send".as_slice() {
-        Some(Event::Send { moment: moment(rest)? })
+        Some(Event::Send {
+            moment: moment(rest)?,
+        })
     } else if names_later(first) {
         Some(Event::Later)
     } else {
