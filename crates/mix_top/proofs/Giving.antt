@@ -1,5 +1,5 @@
 -- A sink that was given nothing.
-use Rattle.std.proofs.Common.{◌≡◌, ℕ, List, ◌++◌, Option, Some, None, IfSome, IsSomeAnd, sym}
+use Rattle.std.proofs.Common.{ℕ, List, Option, Some, None, IfSome, IsSomeAnd, sym}
 use Rattle.std.proofs.lemmas.List.{append-nil}
 use Rattle.mix_base.specs.Writing.{GivesFront}
 

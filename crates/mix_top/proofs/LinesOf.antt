@@ -1,5 +1,5 @@
 -- The first line of what begins with bytes that have no line feed, and the cut of a block at a line feed.
-use Rattle.std.proofs.Common.{◌≡◌, ℕ, ◌+◌, ◌-◌, ◌^◌, ◌<◌, ◌≤◌, ◌⊎◌, List, [], ◌∷◌, ◌++◌, length, take, drop, get_or, Bool, true, false, ◌||◌, ◌&&◌, eqb, leb, ltb, cond, Option, Some, None, Result, Err, IfSome, IsSomeAnd, option_map, refl, sym, ◌∙◌, ap, arith, rules, inl, inr, suc, zero}
+use Rattle.std.proofs.Common.{◌≡◌, ℕ, ◌+◌, ◌-◌, ◌^◌, ◌<◌, ◌≤◌, ◌⊎◌, List, [], ◌∷◌, ◌++◌, length, take, drop, get_or, Bool, true, false, ◌||◌, ◌&&◌, eqb, leb, ltb, Option, Some, None, Result, Err, IfSome, IsSomeAnd, option_map, refl, sym, ◌∙◌, ap, arith, inl, inr, suc, zero}
 use Rattle.std.proofs.lemmas.List.{length-drop, take-append-drop, take-take, drop_more, get_or-take, get_or-drop, drop-drop, drop-take, length-take, length-append, append_assoc, append-nil, nil_from_length, take_all}
 use Rattle.std.proofs.lemmas.Bool.Decides.{nat_tests}
 use borrow.Author.Tests.{ltb-true, ltb-false}
@@ -8,7 +8,7 @@ use Rattle.mix_top.specs.declared.lines.LineFault.TheVariants.{BadLine}
 use Rattle.memchr.specs.Find.{IsFirstByte, is_byte}
 use Rattle.mix_base.specs.Reading.{TakesFront}
 use Rattle.mix_top.specs.Readers.{GivesLine, Stays, ReachesEnd}
-use Rattle.mix_top.specs.Lines.{Piece, ScriptLine, Text, TooLong, onto, pieces_of, lines_of, lines_from, has_feed, is_within, passes_limits, size_of, text_of, without_return}
+use Rattle.mix_top.specs.Lines.{Piece, ScriptLine, Text, TooLong, onto, pieces_of, lines_from, has_feed, is_within, passes_limits, size_of, without_return}
 
 pub or_false : (a b : Bool) → a || b ≡ false → (a ≡ false) × (b ≡ false)
 or_false true b h = absurd (cc)

@@ -1,5 +1,5 @@
 -- The first word of a line, and the value of digits step by step.
-use Rattle.std.proofs.Common.{◌≡◌, ℕ, ◌+◌, ◌-◌, ◌*◌, ◌^◌, ◌<◌, ◌≤◌, List, [], ◌∷◌, ◌++◌, length, take, drop, get_or, Bool, true, false, ◌||◌, ◌&&◌, eqb, leb, cond, Option, Some, None, IfSome, refl, sym, ◌∙◌, ap, arith, suc, zero}
+use Rattle.std.proofs.Common.{◌≡◌, ℕ, ◌+◌, ◌-◌, ◌*◌, ◌^◌, ◌<◌, ◌≤◌, List, [], ◌∷◌, length, take, drop, get_or, true, false, ◌&&◌, leb, cond, None, IfSome, refl, sym, ◌∙◌, ap, arith, suc, zero}
 use Rattle.std.proofs.lemmas.List.{at_drop_more, at_drop_all}
 use Rattle.mix_top.specs.Words.{words_of, is_blank, ends_word, before_first, digits_value, number_of}
 

@@ -1,5 +1,4 @@
 -- A number that its next digit takes past 2^64 stays there.
-use Rattle.std.proofs.Common.{arith}
 use Rattle.mix_top.proofs.WordsOf.{too_large}
 use Rattle.mix_top.proofs.words.read_digits.Goals as goal
 

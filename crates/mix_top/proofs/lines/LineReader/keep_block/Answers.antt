@@ -1,5 +1,5 @@
 -- What is kept has no line feed; what is refused is past a limit, whatever follows.
-use Rattle.std.proofs.Common.{◌≡◌, ℕ, ◌+◌, ◌-◌, ◌≤◌, List, length, take, drop, arith, sym, ◌∙◌}
+use Rattle.std.proofs.Common.{◌≡◌, ℕ, ◌+◌, ◌-◌, List, length, take, drop, arith, sym, ◌∙◌}
 use Rattle.mix_top.proofs.LinesOf.{too_long_comes, has_feed-append, length-chunk, same_number}
 use Rattle.mix_top.proofs.lines.LineReader.keep_block.Goals as goal
 

@@ -1,5 +1,5 @@
 -- What is read comes off the front of what the source has left.
-use Rattle.std.proofs.Common.{◌≡◌, ℕ, length, arith}
+use Rattle.std.proofs.Common.{arith}
 use Rattle.std.proofs.lemmas.List.{with_items_is}
 use Rattle.mix_top.proofs.LinesOf.{block_read}
 use Rattle.mix_top.proofs.lines.LineReader.read_block.Goals as goal

@@ -1,5 +1,5 @@
 -- A line feed in the block ends the line that comes next, or one that is past a limit.
-use Rattle.std.proofs.Common.{◌≡◌, ℕ, ◌+◌, ◌-◌, ◌≤◌, List, [], length, take, drop, arith, refl, sym, ◌∙◌}
+use Rattle.std.proofs.Common.{◌≡◌, ℕ, ◌+◌, ◌-◌, List, length, take, drop, arith, refl, sym, ◌∙◌}
 use Rattle.mix_top.proofs.LinesOf.{feed_too_long, line_taken, length-front, chunk_split, same_number}
 use Rattle.mix_top.proofs.lines.LineReader.take_line.Goals as goal
 

@@ -1,5 +1,5 @@
 -- At the source's end what was kept is the last line.
-use Rattle.std.proofs.Common.{◌≡◌, ℕ, ◌<◌, length, arith, refl}
+use Rattle.std.proofs.Common.{◌<◌, length, arith, refl}
 use Rattle.std.proofs.lemmas.Bool.Decides.{nat_tests}
 use Rattle.mix_top.proofs.LinesOf.{rest_taken}
 use Rattle.mix_top.proofs.lines.LineReader.take_rest.Goals as goal
