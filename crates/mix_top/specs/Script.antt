@@ -29,7 +29,7 @@ moment_of word = number_in 0 (2 ^ 60 - 1) word
 abbrev pub worker_of : List (List ℕ) → Option ℕ
 worker_of words = only_word words >>= number_in 0 3
 
--- what the words behind the first say, by the first
+-- what the words behind `recv` say
 abbrev pub recv_of : List (List ℕ) → Option Event
 recv_of words = do
   both ← both_words words
@@ -37,16 +37,19 @@ recv_of words = do
   packet ← bytes_of both.1
   Some (Recv moment packet)
 
+-- what those behind `peel` say
 abbrev pub peel_of : List (List ℕ) → Option Event
 peel_of words = do
   worker ← worker_of words
   Some (Peel worker)
 
+-- what those behind `claim` say
 abbrev pub claim_of : List (List ℕ) → Option Event
 claim_of words = do
   worker ← worker_of words
   Some (Claim worker)
 
+-- what those behind `send` say
 abbrev pub send_of : List (List ℕ) → Option Event
 send_of words = do
   moment ← only_word words >>= moment_of

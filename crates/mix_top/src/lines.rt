@@ -96,15 +96,19 @@ impl<I: Source> LineReader<I> {
     /// The next line without its line feed, or None at the script's end. After an `Err` the lines to come are as
     /// before; what was read of the next one stays here.
     pub fn next_line(&mut self, alloc: Global) -> Result<Option<Vec<u8>>, LineFault>
-        ensures line { IfOk result (λ next. IfSome next (λ line. GivesLine (coming self.old) (coming self.new) line.items)) }
-        ensures counted { IfOk result (λ next. number_of self.new ≡ number_of self.old + (if is_some next then 1 else 0)) }
+        ensures line { IfOk result (λ next. IfSome next (λ line.
+            GivesLine (coming self.old) (coming self.new) line.items)) }
+        ensures counted { IfOk result (λ next.
+            number_of self.new ≡ number_of self.old + (if is_some next then 1 else 0)) }
         ensures none { IfOk result (λ next. IfNone next (IfSome (coming self.old) (λ lines. lines ≡ []))) }
-        ensures end { IfOk result (λ next. IfNone next (ReachesEnd (I.left (source_of self.old)) (I.left (source_of self.new)))) }
+        ensures end { IfOk result (λ next. IfNone next
+            (ReachesEnd (I.left (source_of self.old)) (I.left (source_of self.new)))) }
 
         // A line past a limit comes next.
         ensures bad_line { (number : ℕ) → result ≡ Err (LineFault.BadLine number) →
             (number ≡ number_of self.old + 1) × IfSome (coming self.old) (λ lines. lines ≡ TooLong ∷ []) }
-        ensures read_fault { IsErrOf result LineFault.ReadFault → Rose (I.faults (source_of self.old)) (I.faults (source_of self.new)) }
+        ensures read_fault { IsErrOf result LineFault.ReadFault →
+            Rose (I.faults (source_of self.old)) (I.faults (source_of self.new)) }
         ensures err_coming { OnErr result (Stays (coming self.old) (coming self.new)) }
         ensures err_number { OnErr result (number_of self.new ≡ number_of self.old) }
 
@@ -187,14 +191,17 @@ impl<I: Source> LineReader<I> {
         Ok(())
     }
 
-    // Reads the next block where the last is used up, and says whether it has anything: else the source is at its end.
+    // Reads the next block where the last is used up, and says whether it has anything: else the source is at its
+    // end.
     fn read_block(&mut self, alloc: Global) -> Result<bool, LineFault>
         requires { self.old.place ≡ self.old.end }
         ensures some { IfOk result (λ some. some ≡ true → self.new.place < self.new.end) }
-        ensures end { IfOk result (λ some. some ≡ false → ReachesEnd (I.left self.old.source) (I.left self.new.source)) }
+        ensures end { IfOk result (λ some. some ≡ false →
+            ReachesEnd (I.left self.old.source) (I.left self.new.source)) }
         ensures used_up { IfOk result (λ some. some ≡ false → self.new.place ≡ self.new.end) }
         ensures bad_line { (number : ℕ) → result ≡ Err (LineFault.BadLine number) → ⊥ }
-        ensures read_fault { IsErrOf result LineFault.ReadFault → Rose (I.faults self.old.source) (I.faults self.new.source) }
+        ensures read_fault { IsErrOf result LineFault.ReadFault →
+            Rose (I.faults self.old.source) (I.faults self.new.source) }
         ensures coming { Stays (coming self.old) (coming self.new) }
         ensures line { self.new.line ≡ self.old.line }
         ensures number { self.new.number ≡ self.old.number }
@@ -214,7 +221,8 @@ impl<I: Source> LineReader<I> {
     // Gives what no line feed ends as the last line, at the source's end.
     fn take_rest(&mut self, alloc: Global) -> Option<Vec<u8>>
         requires { self.old.place ≡ self.old.end }
-        ensures line { IfSome result (λ line. I.left self.old.source ≡ Some [] → GivesLine (coming self.old) (coming self.new) line.items) }
+        ensures line { IfSome result (λ line. I.left self.old.source ≡ Some [] →
+            GivesLine (coming self.old) (coming self.new) line.items) }
         ensures counted { self.new.number ≡ self.old.number + (if is_some result then 1 else 0) }
         ensures none { IfNone result (I.left self.old.source ≡ Some [] → coming self.old ≡ Some []) }
         ensures source { self.new.source ≡ self.old.source }

@@ -44,7 +44,8 @@ pub fn code(status: &Status) -> u8
 
 /// Gives the text of a status to the sink in one piece.
 pub fn write_status<O: Sink>(alloc: Global, sink: &mut O, status: &Status) -> Result<(), PutFault>
-    ensures whole { OnOk result (IfSome (O.given sink.old) (λ before. O.given sink.new ≡ Some (before ++ text_of status.now))) }
+    ensures whole { OnOk result (IfSome (O.given sink.old) (λ before.
+        O.given sink.new ≡ Some (before ++ text_of status.now))) }
     ensures front { OnErr result (IfSome (O.given sink.old) (λ before.
         IsSomeAnd (O.given sink.new) (λ after. GivesFront before after (text_of status.now)))) }
     ensures fault { IsErrOf result PutFault.WriteFault → Rose (O.faults sink.old) (O.faults sink.new) }
@@ -63,7 +64,8 @@ pub fn write_status<O: Sink>(alloc: Global, sink: &mut O, status: &Status) -> Re
 
 // Gives a text, the number of a line and a line feed in one piece.
 fn write_line<O: Sink>(alloc: Global, sink: &mut O, text: &str, line: u64) -> Result<(), PutFault>
-    ensures whole { OnOk result (IfSome (O.given sink.old) (λ before. O.given sink.new ≡ Some (before ++ (text.now ++ decimal line ++ 10 ∷ [])))) }
+    ensures whole { OnOk result (IfSome (O.given sink.old) (λ before.
+        O.given sink.new ≡ Some (before ++ (text.now ++ decimal line ++ 10 ∷ [])))) }
     ensures front { OnErr result (IfSome (O.given sink.old) (λ before.
         IsSomeAnd (O.given sink.new) (λ after. GivesFront before after (text.now ++ decimal line ++ 10 ∷ [])))) }
     ensures fault { IsErrOf result PutFault.WriteFault → Rose (O.faults sink.old) (O.faults sink.new) }

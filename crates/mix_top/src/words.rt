@@ -18,7 +18,8 @@ fn blank(byte: u8) -> bool
 
 /// The first word of a line and what stands behind it.
 pub fn next_word(line: &[u8]) -> Option<(&[u8], &[u8])>
-    ensures words { MatchOption result (words_of line.now ≡ []) (λ parts. words_of line.now ≡ parts.0.now ∷ words_of parts.1.now) }
+    ensures words { MatchOption result (words_of line.now ≡ [])
+        (λ parts. words_of line.now ≡ parts.0.now ∷ words_of parts.1.now) }
     ensures some { IfSome result (λ parts. 0 < length parts.0.now) }
 {
     let line = from_word(line);
