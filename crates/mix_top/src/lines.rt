@@ -130,6 +130,22 @@ impl<I: Source> LineReader<I> {
         }
     }
 
+    /// The source, given back. Where it is a reference, its lender learns so what was read.
+    pub fn into_source(self) -> I
+        ensures { result ≡ source_of self }
+    {
+        let LineReader {
+            source,
+            block: _,
+            place: _,
+            end: _,
+            line: _,
+            used: _,
+            number: _,
+        } = self;
+        source
+    }
+
     /// The number of lines given so far, which is the number of the last of them, counted from 1.
     pub fn number(&self) -> u64
         ensures { result ≡ number_of self.now }

@@ -1,7 +1,7 @@
 // What no clause says: that lines, words and texts come out as written, and that a failed read is named and loses
 // nothing.
 use super::*;
-use mix_base::{MemSink, MemSource};
+use mix_base::{MemSink, MemSource, Source};
 use std::alloc::{AllocError, Global};
 use std::process::Abort;
 use std::test::Fail;
@@ -58,6 +58,8 @@ fn a_failed_read_loses_nothing(rt: HostRuntime) -> Result<(), Fail> {
         .ok_or("the second line is missing")?;
     assert!(rt; second.len() == 40_000);
     assert!(rt; reader.next_line(alloc)?.is_none());
+    let mut source = reader.into_source();
+    assert!(rt; source.read(&mut [0u8; 1]) == Ok(0));
     Ok(())
 }
 
