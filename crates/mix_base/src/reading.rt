@@ -14,6 +14,9 @@ pub trait Source {
     /// How often it has failed, at most 2^64 - 1.
     ghost faults: { Self → ℕ };
 
+    /// The name of the reference that the source is, where it is one: its lender finds by it what was read.
+    ghost reference: { Self → ℕ } = { λ _. 0 };
+
     /// Reads the next bytes into the front of the buffer, and answers how many they are. It answers 0 for a
     /// buffer that isn't empty only at the end.
     fn read(&mut self, buf: &mut [u8]) -> Result<usize, Failed>
@@ -22,13 +25,16 @@ pub trait Source {
             IsSomeAnd (left self.new) (λ after. TakesFront before after buf.new n))) }
         ensures failed { OnErr result (Rose (faults self.old) (faults self.new)) }
         ensures failed_left { OnErr result (left self.new ≡ left self.old) }
-        ensures count { faults self.old ≤ faults self.new };
+        ensures count { faults self.old ≤ faults self.new }
+        ensures same_reference { reference self.new ≡ reference self.old };
 }
 
 impl<I: Source> Source for &mut I {
     ghost left = { λ source. I.left source.now };
 
     ghost faults = { λ source. I.faults source.now };
+
+    ghost reference = { λ source. source.ghost_name };
 
     fn read(&mut self, buf: &mut [u8]) -> Result<usize, Failed> {
         (**self).read(buf)

@@ -1,0 +1,5 @@
+pub mod Lines
+pub mod Readers
+pub mod Script
+pub mod Statuses
+pub mod Words
