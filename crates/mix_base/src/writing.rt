@@ -2,8 +2,9 @@
 ghost use Rattle.std.specs.Prelude.{◌≡◌, ℕ, ◌+◌, ◌-◌, ◌^◌, ◌≤◌, ◌↔◌, ◌++◌, List, Option, [], length, min, Some, None, IsSomeAnd, IfOk, IfSome, OnOk, OnErr, IsErrOf, Contains};
 ghost use Rattle.mix_base.specs.Faults.{Rose};
 ghost use Rattle.mix_base.specs.Writing.{GivesFront, SinkState};
-ghost use Rattle.mix_base.specs.declared.writing.PutFault.TheVariants.{Memory};
+ghost use Rattle.mix_base.specs.declared.writing.PutFault.TheVariants.{Memory as want_of_memory};
 
+use crate::Memory;
 use std::alloc::{AllocError, Global};
 use std::marker::Model;
 
@@ -16,9 +17,17 @@ pub enum PutFault {
 }
 
 impl From<AllocError> for PutFault {
-    ghost from_gives = { λ _ e. e ≡ Memory };
+    ghost from_gives = { λ _ e. e ≡ want_of_memory };
 
     fn from(_: AllocError) -> Self {
+        PutFault::Memory
+    }
+}
+
+impl From<Memory> for PutFault {
+    ghost from_gives = { λ _ e. e ≡ want_of_memory };
+
+    fn from(_: Memory) -> Self {
         PutFault::Memory
     }
 }

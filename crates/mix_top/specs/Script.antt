@@ -1,5 +1,5 @@
 -- The lines of a script of `drive`: what each says, if it is in the grammar.
-use Rattle.std.specs.Prelude.{◌≡◌, ℕ, ◌-◌, ◌/◌, ◌^◌, Bool, true, false, ◌==◌, ◌||◌, if◌then◌else◌, List, [], ◌∷◌, slice_index, Option, Some, None, Result, Ok, Err, codes}
+use Rattle.std.specs.Prelude.{◌≡◌, ℕ, ◌-◌, ◌/◌, ◌^◌, ◌<◌, ◌≤◌, Bool, true, false, ◌==◌, ◌||◌, if◌then◌else◌, List, [], ◌∷◌, slice_index, Option, Some, None, Result, Ok, Err, codes}
 use Rattle.std.specs.Str.{bytes_eq}
 use Rattle.mix_top.specs.Words.{◌>>=◌, words_of, number_in, bytes_of, seed_of}
 use Rattle.mix_top.specs.declared.script.Event.{Event}
@@ -138,3 +138,19 @@ Reads said number (Ok value) = said ≡ Some value
 Reads said number (Err (BadLine bad)) = (said ≡ None) × (bad ≡ number)
 Reads said number (Err ReadFault) = ⊥
 Reads said number (Err Memory) = Unit {0}
+
+-- a moment below 2 ^ 60, and one of four workers
+abbrev pub IsEventInRange : Event → Type 0
+IsEventInRange (Recv moment packet) = moment < 2 ^ 60
+IsEventInRange (Peel worker) = worker < 4
+IsEventInRange (Claim worker) = worker < 4
+IsEventInRange (Send moment) = moment < 2 ^ 60
+IsEventInRange Skip = Unit {0}
+IsEventInRange Later = Unit {0}
+
+-- the numbers of a node line
+pub record IsNodeInRange (node : NodeLine) : Type 0 where
+  pub hops : (1 ≤ node.hops) × (node.hops ≤ 5)
+  pub body : (1 ≤ node.body) × (node.body ≤ 4096)
+  pub epoch : (4 ≤ node.epoch) × (node.epoch ≤ 2 ^ 40)
+  pub grace : node.grace ≤ node.epoch / 4

@@ -1,14 +1,24 @@
-// The laboratory's run of a script.
+// The program's top call over a source of bytes and a sink: a script is read, a node goes through its events,
+// and the report is written. The report's promise is a clause of `mix_command`.
 #![tactic(auto)]
 
+mod book;
+mod command;
+mod drive;
+mod epochs;
+mod items;
+mod keys;
 mod lines;
+mod node;
+mod report;
 mod script;
 mod statuses;
+#[cfg(test)]
+mod tests;
+mod times;
 mod words;
 
+pub use command::mix_command;
 pub use lines::{LineFault, LineReader};
 pub use script::{Event, NodeLine, is_skipped, read_event, read_node};
 pub use statuses::{Status, code, write_status};
-
-#[cfg(test)]
-mod tests;

@@ -1,7 +1,7 @@
 // The lines of a script of `drive`: what each says. A line is read exactly where it is in the grammar.
-ghost use Rattle.std.specs.Prelude.{◌≡◌, IfOk, option_map, option_copied, option_and_then};
+ghost use Rattle.std.specs.Prelude.{◌≡◌, IfOk, option_map, option_copied, option_and_then, ◌≤◌, ◌<◌, ◌^◌, IfSome};
 ghost use Rattle.mix_top.specs.Words.{words_of};
-ghost use Rattle.mix_top.specs.Script.{Reads, event_of, node_of, node_in, says_nothing, suite_of, said_in, without_packet, recv_of, worker_of, moment_of, only_word, both_words, first_number, is_later};
+ghost use Rattle.mix_top.specs.Script.{Reads, IsEventInRange, IsNodeInRange, event_of, node_of, node_in, says_nothing, suite_of, said_in, without_packet, recv_of, worker_of, moment_of, only_word, both_words, first_number, is_later};
 
 use crate::lines::LineFault;
 use crate::words::{next_word, read_bytes, read_number, read_seed};
@@ -61,7 +61,8 @@ pub fn is_skipped(line: &[u8]) -> bool
 
 /// What a line says behind the node line, in a node of so many shards; `number` is the line's.
 pub fn read_event(alloc: Global, line: &[u8], number: u64, _shards: u8) -> Result<Event, LineFault>
-    ensures { Reads (event_of _shards line.now) number result }
+    ensures exact { Reads (event_of _shards line.now) number result }
+    ensures in_range { IfOk result IsEventInRange }
 {
     match read_words(alloc, line) {
         Ok(Some(event)) => Ok(event),
@@ -72,7 +73,8 @@ pub fn read_event(alloc: Global, line: &[u8], number: u64, _shards: u8) -> Resul
 
 /// What the node line says; `number` is the line's.
 pub fn read_node(line: &[u8], number: u64) -> Result<NodeLine, LineFault>
-    ensures { Reads (node_of line.now) number result }
+    ensures exact { Reads (node_of line.now) number result }
+    ensures in_range { IfOk result IsNodeInRange }
 {
     match node(line) {
         Some(node) => Ok(node),
@@ -81,7 +83,8 @@ pub fn read_node(line: &[u8], number: u64) -> Result<NodeLine, LineFault>
 }
 
 fn read_words(alloc: Global, line: &[u8]) -> Result<Option<Event>, Memory>
-    ensures { IfOk result (λ event. event ≡ said_in (words_of line.now)) }
+    ensures exact { IfOk result (λ event. event ≡ said_in (words_of line.now)) }
+    ensures in_range { IfOk result (λ event. IfSome event IsEventInRange) }
 {
     let Some((first, rest)) = next_word(line) else {
         return Ok(Some(Event::Skip));
@@ -97,7 +100,8 @@ fn read_words(alloc: Global, line: &[u8]) -> Result<Option<Event>, Memory>
 
 // What a line says by its first word, where it is no comment and no packet.
 fn without_packet_event(first: &[u8], rest: &[u8]) -> Option<Event>
-    ensures { result ≡ without_packet first.now (words_of rest.now) }
+    ensures exact { result ≡ without_packet first.now (words_of rest.now) }
+    ensures in_range { IfSome result IsEventInRange }
 {
     if first == b"peel".as_slice() {
         Some(Event::Peel {
@@ -120,7 +124,8 @@ fn without_packet_event(first: &[u8], rest: &[u8]) -> Option<Event>
 
 // A packet and the moment at which it arrives.
 fn recv(alloc: Global, rest: &[u8]) -> Result<Option<Event>, Memory>
-    ensures { IfOk result (λ event. event ≡ recv_of (words_of rest.now)) }
+    ensures exact { IfOk result (λ event. event ≡ recv_of (words_of rest.now)) }
+    ensures in_range { IfOk result (λ event. IfSome event IsEventInRange) }
 {
     let Some((moment, packet)) = two_words(rest) else {
         return Ok(None);
@@ -139,7 +144,8 @@ fn recv(alloc: Global, rest: &[u8]) -> Result<Option<Event>, Memory>
 
 // A worker as the only word.
 fn worker(rest: &[u8]) -> Option<u8>
-    ensures { result ≡ worker_of (words_of rest.now) }
+    ensures exact { result ≡ worker_of (words_of rest.now) }
+    ensures in_range { IfSome result (λ worker. worker < 4) }
 {
     let worker = read_number(one_word(rest)?, 0, LAST_WORKER)?;
     Some(worker as u8)
@@ -147,7 +153,8 @@ fn worker(rest: &[u8]) -> Option<u8>
 
 // A moment as the only word.
 fn moment(rest: &[u8]) -> Option<u64>
-    ensures { result ≡ option_and_then moment_of (only_word (words_of rest.now)) }
+    ensures exact { result ≡ option_and_then moment_of (only_word (words_of rest.now)) }
+    ensures in_range { IfSome result (λ moment. moment < 2 ^ 60) }
 {
     read_number(one_word(rest)?, 0, LAST_MOMENT)
 }
@@ -181,7 +188,8 @@ fn two_words(rest: &[u8]) -> Option<(&[u8], &[u8])>
 
 // A number in a range as the first word, and what stands behind it.
 fn next_number(rest: &[u8], low: u64, high: u64) -> Option<(u64, &[u8])>
-    ensures { option_map (λ x. (x.0, words_of x.1.now)) result ≡ first_number low high (words_of rest.now) }
+    ensures exact { option_map (λ x. (x.0, words_of x.1.now)) result ≡ first_number low high (words_of rest.now) }
+    ensures in_range { IfSome result (λ x. (low ≤ x.0) × (x.0 ≤ high)) }
 {
     let (word, others) = next_word(rest)?;
     let value = read_number(word, low, high)?;
@@ -201,7 +209,8 @@ fn suite(word: &[u8]) -> Option<bool>
 }
 
 fn node(line: &[u8]) -> Option<NodeLine>
-    ensures { result ≡ node_of line.now }
+    ensures exact { result ≡ node_of line.now }
+    ensures in_range { IfSome result IsNodeInRange }
 {
     let (first, rest) = next_word(line)?;
     if first == b"node".as_slice() {
@@ -213,7 +222,8 @@ fn node(line: &[u8]) -> Option<NodeLine>
 
 // What the words of a node line say behind the first.
 fn node_fields(rest: &[u8]) -> Option<NodeLine>
-    ensures { result ≡ node_in (words_of rest.now) }
+    ensures exact { result ≡ node_in (words_of rest.now) }
+    ensures in_range { IfSome result IsNodeInRange }
 {
     let (name, rest) = next_word(rest)?;
     let ntru = suite(name)?;

@@ -63,7 +63,8 @@ fn word_length(line: &[u8]) -> usize
 
 /// The value of a number from `low` to `high`: 1 to 20 decimal digits.
 pub fn read_number(word: &[u8], low: u64, high: u64) -> Option<u64>
-    ensures { result ≡ number_in low high word.now }
+    ensures exact { result ≡ number_in low high word.now }
+    ensures in_range { IfSome result (λ value. (low ≤ value) × (value ≤ high)) }
 {
     let value = read_digits(word)?;
     if low <= value && value <= high {

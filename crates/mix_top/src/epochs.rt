@@ -1,0 +1,35 @@
+// Epochs of time: each is live for a while before it begins and after it ends, so at a moment one or two are.
+ghost use Rattle.std.specs.Prelude.{◌≡◌, ◌^◌, ◌<◌, ◌∷◌};
+ghost use Rattle.std.specs.Option.{option_to_list};
+ghost use Rattle.mix_top.specs.Epochs.{current, live_epochs};
+ghost use Rattle.mix_top.specs.Epochs as epochs;
+
+use crate::times::{Live, Times};
+
+/// The epochs that are live at a moment below 2^60, the current one first.
+pub fn live(moment: u64, times: &Times) -> Live
+    requires { moment < 2 ^ 60 }
+    ensures first { result.first ≡ current times.now moment }
+    ensures all { result.first ∷ option_to_list result.other ≡ live_epochs times.now moment }
+{
+    let epoch = times.epoch();
+    let grace = times.grace();
+    let first = moment / epoch;
+    let begun = first * epoch;
+    let other = if first > 0 && moment < begun + grace {
+        Some(first - 1)
+    } else if begun + epoch <= moment + grace {
+        Some(first + 1)
+    } else {
+        None
+    };
+    Live { first, other }
+}
+
+/// The least epoch that is live at a moment below 2^60.
+pub fn least_live(moment: u64, times: &Times) -> u64
+    requires { moment < 2 ^ 60 }
+    ensures { result ≡ epochs.least_live times.now moment }
+{
+    moment.saturating_sub(times.grace()) / times.epoch()
+}
