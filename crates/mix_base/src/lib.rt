@@ -3,6 +3,8 @@
 #![tactic(auto)]
 
 mod faults;
+mod stories;
 
 pub use faults::Failed;
 pub use faults::Memory;
+pub use stories::Storied;

@@ -1,0 +1,9 @@
+// A lock that hands one value from caller to caller. What a caller is given begins with all that it had seen
+// before, and what follows was done by others, so a caller who gave back a value finds again what it did to it.
+#![tactic(auto)]
+
+mod lock;
+mod steps;
+mod view;
+
+pub use lock::{MadeLock, Pass, TurnLock};

@@ -1,0 +1,109 @@
+// The lock and its passes.
+ghost use Rattle.std.specs.Prelude.{◌≡◌, ◌<◌, ℕ, [], true, false, All, Any, IfOk, IfErr};
+ghost use Rattle.turn_lock.specs.Seen.{IsOf, new_passes, holding, resting};
+ghost use Rattle.turn_lock.specs.Stories.{entries_by, after, Begins};
+
+use crate::steps::{
+    BUSY, Deals, Gathers, Place, Start, Told, begin, count, end, put_back, take_out, wait_begin,
+};
+use crate::view::View;
+use atomic_table::{Refused, Table};
+use mix_base::{Memory, Storied};
+use std::alloc::Global;
+use std::marker::Model;
+use std::snapshot::Snapshot;
+use std::sync::Wait;
+use std::sync::atomic::AtomicU64;
+use std::sync::atomic::Ordering::SeqCst;
+
+/// One caller's right to take turns at one lock.
+#[derive(Drop)]
+pub struct Pass<T: Storied> {
+    number: u32,
+    // How many entries the story had when the pass last took the value.
+    entries: u64,
+    seat: Place<T>,
+}
+
+impl<T: Storied> Model for Pass<T> {
+    ghost use Rattle.turn_lock.specs.Seen.{Caller, caller_code};
+
+    ghost Value = { Caller T.Entry };
+
+    ghost coded = { caller_code T.Entry.code };
+
+    ghost use Rattle.turn_lock.specs.Turns.{IsPass, is_at_turn, made_by};
+
+    ghost view = { λ p. record { lock = p.seat.table_id; number = p.number; holds = is_at_turn p.seat.me.0.role; origin = p.seat.me.0.origin; seen = p.seat.me.0.seen; made = made_by p.seat.me.0.callers } };
+
+    ghost invariant = { λ p. IsPass p.number p.entries p.seat.me };
+}
+
+/// A lock that hands its value from one caller to the next.
+#[derive(Drop)]
+pub struct TurnLock<T: Storied> {
+    table: Table<Option<T>, View<T::Entry>, Start<T>, Told, Global>,
+    // How many takers may be asleep. A giver reads it to know whether to wake one.
+    sleepers: AtomicU64,
+}
+
+impl<T: Storied> Model for TurnLock<T> {
+    ghost use Rattle.std.specs.Prelude.{◌≡◌};
+    ghost use Rattle.turn_lock.specs.Seen.{Lock, lock_code};
+
+    ghost Value = { Lock T.Entry };
+
+    ghost coded = { lock_code T.Entry.code };
+
+    ghost view = { λ l. record { id = l.table.shared.table_id; callers = l.table.shared.key.callers; origin = T.origin l.table.shared.key.value.value; story = T.story l.table.shared.key.value.value } };
+
+    ghost invariant = { λ l. (l.table.shared.table_id.words ≡ 2) × (l.table.shared.table_id.slots ≡ 1) };
+}
+
+/// A lock, and a pass for each of its callers.
+#[derive(Drop)]
+pub struct MadeLock<T: Storied> {
+    pub lock: TurnLock<T>,
+    pub passes: Vec<Pass<T>>,
+}
+
+impl<T: Storied> TurnLock<T> {
+    /// Waits until no other pass holds the value, and takes it. Nothing is said of how long that takes, nor of who comes first.
+    pub fn take(&self, rt: &impl Wait, pass: &mut Pass<T>) -> T
+        requires own { IsOf self.now pass.old }
+        requires rests { pass.old.holds ≡ false }
+        ensures origin { T.origin result ≡ self.now.origin }
+
+        // The story begins with all that the pass had seen, and what follows was done by others.
+        ensures begins { Begins pass.old.seen (T.story result) }
+        ensures others { entries_by T.caller pass.old.number (after pass.old.seen (T.story result)) ≡ [] }
+        ensures pass { pass.new ≡ holding pass.old (T.story result) }
+    {
+        let steps = &self.table.shared;
+        wait_begin(rt, steps, &self.sleepers, &mut pass.seat);
+        let value = take_out(steps, &mut pass.seat);
+        pass.entries = value.entries();
+        value
+    }
+
+    /// Gives the value back, and lets another pass take it.
+    pub fn give(&self, pass: &mut Pass<T>, value: T)
+        requires own { IsOf self.now pass.old }
+        requires holds { pass.old.holds ≡ true }
+        requires origin { T.origin value ≡ self.now.origin }
+
+        // The story only grew, by entries of this caller.
+        requires begins { Begins pass.old.seen (T.story value) }
+        requires own_entries { All (λ e. T.caller e ≡ pass.old.number) (after pass.old.seen (T.story value)) }
+        ensures pass { pass.new ≡ resting pass.old (T.story value) }
+    {
+        let steps = &self.table.shared;
+        let new = value.entries() - pass.entries;
+        put_back(steps, &mut pass.seat, value);
+        count(steps, &mut pass.seat, new);
+        end(steps, &mut pass.seat);
+        if self.sleepers.load(SeqCst) > 0 {
+            steps.wake_one(BUSY);
+        }
+    }
+}
