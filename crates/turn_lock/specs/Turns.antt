@@ -7,7 +7,7 @@ use lib.ListN.{get_elem?}
 use Rattle.atomic_table.specs.Table.{State, Me}
 use Rattle.atomic_table.specs.Seated.{TableId}
 use Rattle.atomic_table.specs.declared.shared.Seat.{Seat}
-use Rattle.turn_lock.specs.Seen.{Origin}
+use Rattle.turn_lock.specs.Seen.{Origin, Lock, Caller}
 use Rattle.turn_lock.specs.Stories.{entries_by, after, Begins, longer}
 use Rattle.turn_lock.specs.declared.view.Role.{Role}
 use Rattle.turn_lock.specs.declared.view.Role.TheVariants.{Spent, Deals, Rests, Turns}
@@ -167,6 +167,14 @@ module _ {T E : Type 0} where
 
   abbrev pub IsSameSeat : Seat (Option T) (View E) → Seat (Option T) (View E) → Type 0
   IsSameSeat s t = (t.table_id ≡ s.table_id) × (t.id ≡ s.id)
+
+  -- the seat gives away the callers' numbers of this lock, from `next` on
+  abbrev pub IsDealer : Lock E → ℕ → Seat (Option T) (View E) → Type 0
+  IsDealer lock next seat = (seat.table_id ≡ lock.id) × (seat.me ≡ (dealer next lock.origin lock.story, []))
+
+  -- the pass has given up its seat, which is at rest
+  abbrev pub IsSeatFor : Caller E → Seat (Option T) (View E) → Type 0
+  IsSeatFor pass seat = (seat.table_id ≡ pass.lock) × (seat.me.0.role ≡ Rests) × (seat.me.1 ≡ []) × (seat.me.0.callers ≡ (pass.number, pass.made) ∷ []) × (seat.me.0.seen ≡ pass.seen)
 
   -- a pass holds nothing at rest. At turn the slot is its own, the value is out, and `entries` counts what it has seen
   abbrev pub Stands : ℕ → Me (Option T) (View E) → Role → Type 0

@@ -1,7 +1,8 @@
 // The lock and its passes.
-ghost use Rattle.std.specs.Prelude.{◌≡◌, ◌<◌, ℕ, [], true, false, All, Any, IfOk, IfErr};
-ghost use Rattle.turn_lock.specs.Seen.{IsOf, new_passes, holding, resting};
+ghost use Rattle.std.specs.Prelude.{◌≡◌, ◌+◌, ◌<◌, ◌≤◌, ℕ, [], true, false, All, Any, IfOk, IfErr, vec_capacity};
+ghost use Rattle.turn_lock.specs.Seen.{IsOf, new_pass, new_passes, holding, resting};
 ghost use Rattle.turn_lock.specs.Stories.{entries_by, after, Begins};
+ghost use Rattle.turn_lock.specs.Turns.{IsDealer, IsSeatFor};
 
 use crate::steps::{
     BUSY, Deals, Gathers, Place, Start, Told, begin, count, end, put_back, take_out, wait_begin,
@@ -67,7 +68,95 @@ pub struct MadeLock<T: Storied> {
     pub passes: Vec<Pass<T>>,
 }
 
+// The table with the value in its slot, and the seat that gives the callers' numbers away.
+fn lay<T: Storied>(
+    alloc: Global,
+    value: T,
+    callers: u32,
+) -> Result<(TurnLock<T>, Place<T>), (T, Memory)>
+    ensures lock { IfOk result (λ r. (r.0.callers ≡ callers) × (r.0.origin ≡ T.origin value) × (r.0.story ≡ T.story value)) }
+    ensures dealer { IfOk result (λ r. IsDealer r.0 0 r.1) }
+    ensures err { IfErr result (λ r. r.0 ≡ value) }
+{
+    let Ok(mut slots) = Vec::with_capacity(alloc, 1) else {
+        return Err((value, Memory));
+    };
+    let entries = value.entries();
+    let start = Start {
+        value: Snapshot::of(&value),
+        callers,
+    };
+    slots.push_reserved(Some(value));
+    match Table::new(alloc, &[entries, 0], slots, &start) {
+        Ok((table, seat)) => Ok((
+            TurnLock {
+                table,
+                sleepers: AtomicU64::new(0),
+            },
+            seat,
+        )),
+        Err(Refused { mut slots }) => {
+            let Some(Some(value)) = slots.pop() else {
+                unreachable!()
+            };
+            Err((value, Memory))
+        }
+    }
+}
+
+// A pass for each of the callers, whose room was made.
+fn deal<T: Storied>(
+    lock: &TurnLock<T>,
+    mut dealer: Place<T>,
+    mut passes: Vec<Pass<T>>,
+    callers: u32,
+) -> Vec<Pass<T>>
+    requires dealer { IsDealer lock.now 0 dealer }
+    requires callers { callers ≡ lock.now.callers }
+    requires room { (passes.items ≡ []) × (callers ≤ vec_capacity passes) }
+    ensures { result.items ≡ new_passes lock.now callers }
+{
+    for number in 0..callers {
+        passes.push_reserved(lock.next_pass(&mut dealer, number));
+    }
+    passes
+}
+
 impl<T: Storied> TurnLock<T> {
+    /// A lock over the value, with one pass for each caller, numbered from 0. Where memory is wanting the value comes back.
+    pub fn new(
+        alloc: Global,
+        value: T,
+        callers: u32,
+    ) -> Result<MadeLock<T>, (T, Memory)>
+        requires { 0 < callers }
+        ensures lock { IfOk result (λ m. (m.lock.callers ≡ callers) × (m.lock.origin ≡ T.origin value) × (m.lock.story ≡ T.story value)) }
+        ensures passes { IfOk result (λ m. m.passes.items ≡ new_passes m.lock callers) }
+        ensures err { IfErr result (λ e. e.0 ≡ value) }
+    {
+        let Ok(room) = Vec::with_capacity(alloc, callers as usize) else {
+            return Err((value, Memory));
+        };
+        let (lock, dealer) = lay(alloc, value, callers)?;
+        let passes = deal(&lock, dealer, room, callers);
+        Ok(MadeLock { lock, passes })
+    }
+
+    // The pass with the next number.
+    fn next_pass(&self, dealer: &mut Place<T>, number: u32) -> Pass<T>
+        requires dealer { IsDealer self.now number dealer.old }
+        requires few { number < self.now.callers }
+        ensures pass { result ≡ new_pass self.now number }
+        ensures dealer { IsDealer self.now (number + 1) dealer.new }
+    {
+        let seat = self.table.shared.split_seat::<Deals>(dealer);
+        Pass {
+            number,
+            entries: 0,
+            seat,
+        }
+    }
+
     /// Waits until no other pass holds the value, and takes it. Nothing is said of how long that takes, nor of who comes first.
     pub fn take(&self, rt: &impl Wait, pass: &mut Pass<T>) -> T
         requires own { IsOf self.now pass.old }

@@ -22,6 +22,7 @@ pub(crate) const BUSY: usize = 1;
 const LOOKS: u32 = 100;
 
 // What a lock is made with: the value, and for how many callers. It is there for proofs alone.
+#[derive(Drop)]
 pub(crate) struct Start<T> {
     pub(crate) value: Snapshot<T>,
     pub(crate) callers: u32,
