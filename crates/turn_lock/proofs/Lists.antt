@@ -120,3 +120,22 @@ longer_cases xs ys r s e =
   where
     not_leb : (a b : ℕ) → b < a → nat_le a b ≡ false
     not_leb a b less = grind (arith, nat_tests)
+
+module _ {A : Type 0} where
+  pub all_middle : (P : A → Type 0) (xs ys : List A) (x : A) → All P (xs ++ x ∷ ys) → P x
+  all_middle P [] ys x h = h 0 x (omega arith)
+  all_middle P (y ∷ xs) ys x h = all_middle P xs ys x (λ k d l. h (suc k) d (omega arith))
+
+  pub all_cons : (P : A → Type 0) (x : A) (xs : List A) → P x → All P xs → All P (x ∷ xs)
+  all_cons P x xs p h zero d l = p
+  all_cons P x xs p h (suc k) d l = h k d (omega arith)
+
+  pub all_map : (P Q : A → Type 0) (xs : List A) → ((x : A) → P x → Q x) → All P xs → All Q xs
+  all_map P Q xs f h k d l = f (get_or xs k d) (h k d l)
+
+  pub cons_in : (x : A) (xs : List A) (a : A) → Contains xs a → Contains (x ∷ xs) a
+  cons_in x xs a i = (suc i.0, omega (arith, i.1), i.2)
+
+  pub one_left : (xs : List A) → length xs ≡ 0 → xs ≡ []
+  one_left [] e = refl
+  one_left (x ∷ xs) e = absurd (omega arith)

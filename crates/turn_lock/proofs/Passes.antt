@@ -1,15 +1,17 @@
 -- What a pass knows before and after its calls.
-use Rattle.std.proofs.Common.{◌≡◌, ℕ, ◌+◌, ◌-◌, ◌^◌, ◌<◌, Bool, true, false, List, [], ◌∷◌, ◌++◌, length, Some, None, Option, refl, sym, ap, ◌∙◌, subst, arith, length-drop}
+use Rattle.std.proofs.Common.{◌≡◌, ℕ, ◌+◌, ◌-◌, ◌^◌, ◌<◌, Bool, true, false, List, [], ◌∷◌, ◌++◌, length, Some, None, Option, refl, sym, ap, ◌∙◌, subst, ⊎_elim, arith, append_assoc, length-drop}
+use Rattle.std.proofs.lemmas.List.Elements.{Contains-append_left, Contains-append_right}
 use Rattle.std.specs.Prelude.{All, Contains, slice_index_or, unwrap_or}
 use Rattle.atomic_table.specs.Table.{Me}
 use Rattle.atomic_table.specs.Seated.{TableId}
-use Rattle.turn_lock.specs.Seen.{Origin, Caller, resting}
+use Rattle.atomic_table.specs.declared.shared.Seat.{Seat}
+use Rattle.turn_lock.specs.Seen.{Origin, Lock, Caller, resting}
 use Rattle.turn_lock.specs.Stories.{entries_by, after, Begins}
 use Rattle.turn_lock.specs.declared.view.Role.{Role}
 use Rattle.turn_lock.specs.declared.view.Role.TheVariants.{Spent, Deals, Rests, Turns}
 use Rattle.turn_lock.specs.declared.view.View.{View}
-use Rattle.turn_lock.specs.Turns.{view, Took, Brings, Counted, is_at_turn, made_by, Stands, IsPass}
-use Rattle.turn_lock.proofs.Lists.{one_in, after_whole}
+use Rattle.turn_lock.specs.Turns.{view, both, SpeaksFor, IsSeatFor, IsSeatOfAll, Took, Brings, Counted, is_at_turn, made_by, Stands, IsPass}
+use Rattle.turn_lock.proofs.Lists.{one_in, in_cons, cons_in, after_whole, all_middle, all_cons, all_map}
 
 -- what a seat has in hand is one value
 pub same_hand : {T : Type 0} (x y : T) → ◌≡◌ {A = List (ℕ × Option T)} ((0, Some x) ∷ []) ((0, Some y) ∷ []) → x ≡ y
@@ -78,3 +80,44 @@ module _ {T E : Type 0} (origin : T → Origin) (story : T → List E) (caller :
         → record { lock = z'; number = number; holds = is_at_turn n.0.role; origin = n.0.origin; seen = n.0.seen; made = made_by n.0.callers }
         ≡ resting record { lock = z; number = number; holds = is_at_turn m.0.role; origin = m.0.origin; seen = m.0.seen; made = made_by m.0.callers } (story value)
     gave z z' n same is = λ i. record { lock = same i; number = number; holds = is_at_turn (is i).0.role; origin = (is i).0.origin; seen = (is i).0.seen; made = made_by (is i).0.callers }
+
+module _ {E : Type 0} where
+  -- a view still speaks for a pass once it has taken another view in
+  pub speaks_both : (v w : View E) (p : Caller E) → SpeaksFor v p → SpeaksFor (both v w) p
+  speaks_both v w p h = (
+    Contains-append_left v.callers w.callers (p.number, p.made) h.0,
+    cons_in (both v w).seen (both v w).heard p.seen (⊎_elim
+        (λ (e : v.seen ≡ p.seen). subst (Contains (both v w).heard) e (0, omega arith, refl))
+        (λ (i : Contains v.heard p.seen). cons_in v.seen (w.seen ∷ (v.heard ++ w.heard)) p.seen (cons_in w.seen (v.heard ++ w.heard) p.seen (Contains-append_left v.heard w.heard p.seen i)))
+        (in_cons v.seen v.heard p.seen h.1)),
+  )
+
+  -- and for the passes of the other view
+  pub speaks_too : (v w : View E) (p : Caller E) → w.callers ≡ (p.number, p.made) ∷ [] → w.seen ≡ p.seen → SpeaksFor (both v w) p
+  speaks_too v w p one same = (
+    Contains-append_right v.callers w.callers (p.number, p.made) (one_in w.callers (p.number, p.made) one),
+    subst (Contains ((both v w).seen ∷ (both v w).heard)) same (cons_in (both v w).seen (both v w).heard w.seen (cons_in v.seen (w.seen ∷ (v.heard ++ w.heard)) w.seen (0, omega arith, refl))),
+  )
+
+  -- the passes that are left and those that are done, once one more is taken
+  pub popped : (all left left' done : List (Caller E)) (p : Caller E) → all ≡ left ++ done → left ≡ left' ++ p ∷ [] → all ≡ left' ++ p ∷ done
+  popped all left left' done p whole last = whole ∙ (ap (λ ps. ps ++ done) last ∙ append_assoc left' (p ∷ []) done)
+
+  -- what holds of all passes holds of the one that was taken from the end of those that are left
+  pub of_popped : (P : Caller E → Type 0) (all left left' done : List (Caller E)) (p : Caller E) → all ≡ left ++ done → left ≡ left' ++ p ∷ [] → All P all → P p
+  of_popped P all left left' done p whole last h = all_middle P left' done p (subst (All P) (popped all left left' done p whole last) h)
+
+module _ {T E : Type 0} where
+  -- a seat that takes in the seat of one pass more speaks for it too
+  pub joined : (lock : Lock E) (done : List (Caller E)) (p : Caller E) (s other t : Seat (Option T) (View E)) → IsSeatOfAll lock done s → IsSeatFor p other
+      → t.table_id ≡ s.table_id → t.me ≡ (both s.me.0 other.me.0, s.me.1) → IsSeatOfAll lock (p ∷ done) t
+  joined lock done p s other t h his same me =
+      let speaks : All (SpeaksFor (both s.me.0 other.me.0)) (p ∷ done) =
+          all_cons (SpeaksFor (both s.me.0 other.me.0)) p done (speaks_too s.me.0 other.me.0 p his.3 his.4)
+          (all_map (SpeaksFor s.me.0) (SpeaksFor (both s.me.0 other.me.0)) done (speaks_both s.me.0 other.me.0) h.speaks) in
+      record {
+        table = same ∙ h.table;
+        rests = ap (λ (m : Me (Option T) (View E)). m.0.role) me;
+        empty = ap (λ (m : Me (Option T) (View E)). m.1) me ∙ h.empty;
+        speaks = (let P : Me (Option T) (View E) → Type 0 = λ m. All (SpeaksFor m.0) (p ∷ done) in subst P (sym me) speaks);
+      }

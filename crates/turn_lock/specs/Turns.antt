@@ -156,6 +156,10 @@ abbrev pub made_by : {E : Type 0} → List (ℕ × List E) → List E
 made_by [] = []
 made_by (k ∷ ks) = k.1
 
+-- the view speaks for this pass, and was told of all that it had seen
+abbrev pub SpeaksFor : {E : Type 0} → View E → Caller E → Type 0
+SpeaksFor v pass = Contains v.callers (pass.number, pass.made) × Contains (v.seen ∷ v.heard) pass.seen
+
 module _ {T E : Type 0} where
   -- a seat of one caller, at rest, with no slot in hand
   abbrev pub IsAtRest : Me (Option T) (View E) → Type 0
@@ -175,6 +179,13 @@ module _ {T E : Type 0} where
   -- the pass has given up its seat, which is at rest
   abbrev pub IsSeatFor : Caller E → Seat (Option T) (View E) → Type 0
   IsSeatFor pass seat = (seat.table_id ≡ pass.lock) × (seat.me.0.role ≡ Rests) × (seat.me.1 ≡ []) × (seat.me.0.callers ≡ (pass.number, pass.made) ∷ []) × (seat.me.0.seen ≡ pass.seen)
+
+  -- one seat, at rest, that speaks for these passes
+  pub record IsSeatOfAll (lock : Lock E) (passes : List (Caller E)) (seat : Seat (Option T) (View E)) : Type 0 where
+    pub table : seat.table_id ≡ lock.id
+    pub rests : seat.me.0.role ≡ Rests
+    pub empty : seat.me.1 ≡ []
+    pub speaks : All (SpeaksFor seat.me.0) passes
 
   -- a pass holds nothing at rest. At turn the slot is its own, the value is out, and `entries` counts what it has seen
   abbrev pub Stands : ℕ → Me (Option T) (View E) → Role → Type 0

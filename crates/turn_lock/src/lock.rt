@@ -1,14 +1,17 @@
 // The lock and its passes.
-ghost use Rattle.std.specs.Prelude.{◌≡◌, ◌+◌, ◌<◌, ◌≤◌, ℕ, [], true, false, All, Any, IfOk, IfErr, vec_capacity};
+ghost use Rattle.std.specs.Prelude.{◌≡◌, ◌+◌, ◌<◌, ◌≤◌, ℕ, [], true, false, All, Any, IfOk, IfErr, vec_len, vec_capacity};
 ghost use Rattle.turn_lock.specs.Seen.{IsOf, new_pass, new_passes, holding, resting};
 ghost use Rattle.turn_lock.specs.Stories.{entries_by, after, Begins};
-ghost use Rattle.turn_lock.specs.Turns.{IsDealer, IsSeatFor};
+ghost use Rattle.turn_lock.specs.Turns.{IsDealer, IsSeatFor, IsSeatOfAll};
+ghost use Rattle.std.specs.Slots.{slots_items, slots_len, IsFull};
+ghost use mathlib.Core.Option.{some};
+ghost use lib.ListN.{get_elem?};
 
 use crate::steps::{
     BUSY, Deals, Gathers, Place, Start, Told, begin, count, end, put_back, take_out, wait_begin,
 };
 use crate::view::View;
-use atomic_table::{Refused, Table};
+use atomic_table::{Closed, Refused, Table};
 use mix_base::{Memory, Storied};
 use std::alloc::Global;
 use std::marker::Model;
@@ -49,7 +52,7 @@ pub struct TurnLock<T: Storied> {
 }
 
 impl<T: Storied> Model for TurnLock<T> {
-    ghost use Rattle.std.specs.Prelude.{◌≡◌};
+    ghost use Rattle.std.specs.Prelude.{◌≡◌, ◌<◌};
     ghost use Rattle.turn_lock.specs.Seen.{Lock, lock_code};
 
     ghost Value = { Lock T.Entry };
@@ -58,7 +61,7 @@ impl<T: Storied> Model for TurnLock<T> {
 
     ghost view = { λ l. record { id = l.table.shared.table_id; callers = l.table.shared.key.callers; origin = T.origin l.table.shared.key.value.value; story = T.story l.table.shared.key.value.value } };
 
-    ghost invariant = { λ l. (l.table.shared.table_id.words ≡ 2) × (l.table.shared.table_id.slots ≡ 1) };
+    ghost invariant = { λ l. (l.table.shared.table_id.words ≡ 2) × (l.table.shared.table_id.slots ≡ 1) × (0 < l.table.shared.key.callers) };
 }
 
 /// A lock, and a pass for each of its callers.
@@ -74,6 +77,7 @@ fn lay<T: Storied>(
     value: T,
     callers: u32,
 ) -> Result<(TurnLock<T>, Place<T>), (T, Memory)>
+    requires { 0 < callers }
     ensures lock { IfOk result (λ r. (r.0.callers ≡ callers) × (r.0.origin ≡ T.origin value) × (r.0.story ≡ T.story value)) }
     ensures dealer { IfOk result (λ r. IsDealer r.0 0 r.1) }
     ensures err { IfErr result (λ r. r.0 ≡ value) }
@@ -120,6 +124,46 @@ fn deal<T: Storied>(
         passes.push_reserved(lock.next_pass(&mut dealer, number));
     }
     passes
+}
+
+// The seat of a pass that is given up.
+fn seat_of<T: Storied>(pass: Pass<T>) -> Place<T>
+    requires { pass.holds ≡ false }
+    ensures { IsSeatFor pass result }
+{
+    let Pass {
+        number: _,
+        entries: _,
+        seat,
+    } = pass;
+    seat
+}
+
+// One seat that speaks for all passes.
+fn gather<T: Storied>(lock: &TurnLock<T>, mut passes: Vec<Pass<T>>) -> Place<T>
+    requires own { All (IsOf lock.now) passes.items }
+    requires rest { All (λ p. p.holds ≡ false) passes.items }
+    requires some { 0 < vec_len passes }
+    ensures { IsSeatOfAll lock.now passes.items result }
+{
+    let Some(last) = passes.pop() else {
+        unreachable!()
+    };
+    let mut all = seat_of(last);
+    while let Some(pass) = passes.pop() {
+        lock.table.shared.join_seat::<Gathers>(&mut all, seat_of(pass));
+    }
+    all
+}
+
+// What the one slot of a closed table has.
+fn slot_of<T: Storied>(mut closed: Closed<Option<T>, Global>) -> Option<T>
+    requires { (slots_len closed.slots ≡ 1) × IsFull closed.slots }
+    ensures { get_elem? (slots_items closed.slots) 0 ≡ some result }
+{
+    let slot = closed.take(0);
+    closed.free();
+    slot
 }
 
 impl<T: Storied> TurnLock<T> {
@@ -194,5 +238,28 @@ impl<T: Storied> TurnLock<T> {
         if self.sleepers.load(SeqCst) > 0 {
             steps.wake_one(BUSY);
         }
+    }
+
+    /// Gives the value out for good, once every pass is back and none holds it.
+    pub fn close(self, passes: Vec<Pass<T>>) -> T
+        requires own { All (IsOf self) passes.items }
+        requires rest { All (λ p. p.holds ≡ false) passes.items }
+        requires every { (c : ℕ) → c < self.callers → Any (λ p. p.number ≡ c) passes.items }
+        ensures origin { T.origin result ≡ self.origin }
+
+        // The story begins with that of the value at `new`, and with all that each pass had seen.
+        ensures begins { Begins self.story (T.story result) }
+        ensures seen { All (λ p. Begins p.seen (T.story result)) passes.items }
+
+        // After the story at `new` the entries of each caller are those that its pass made, each once and in its order, and there are no others.
+        ensures made { All (λ p. entries_by T.caller p.number (after self.story (T.story result)) ≡ p.made) passes.items }
+        ensures others { All (λ e. T.caller e < self.callers) (after self.story (T.story result)) }
+    {
+        let all = gather(&self, passes);
+        let TurnLock { table, sleepers: _ } = self;
+        let Some(value) = slot_of(table.close_with(all)) else {
+            unreachable!()
+        };
+        value
     }
 }
