@@ -1,3 +1,4 @@
-mod Lists
+mod Closing
 mod Keeps
+mod Lists
 mod Passes
