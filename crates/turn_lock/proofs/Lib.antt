@@ -2,3 +2,4 @@ mod Closing
 mod Keeps
 mod Lists
 mod Passes
+mod Rounds

@@ -1,5 +1,5 @@
 -- What contracts see of a lock and of a pass.
-use Rattle.std.specs.Prelude.{◌≡◌, ℕ, Bool, true, false, List, [], ◌++◌, map, refl}
+use Rattle.std.specs.Prelude.{◌≡◌, ℕ, Bool, true, false, ◌+◌, List, [], ◌∷◌, ◌++◌, map, refl}
 use Rattle.std.specs.List.{range_with_len}
 use Rattle.std.specs.Coded.{Coded, code_by, coded×, coded_ℕ, coded_bool, coded_list}
 use Rattle.atomic_table.specs.Seated.{TableId, table_id_coded}
@@ -42,6 +42,15 @@ module _ {E : Type 0} where
   -- the pass is one of this lock, and knows its origin
   abbrev pub IsOf : Lock E → Caller E → Type 0
   IsOf lock pass = (pass.lock ≡ lock.id) × (pass.origin ≡ lock.origin)
+
+  -- the pass with this number, of this lock, holds nothing
+  abbrev pub IsIdle : Lock E → ℕ → Caller E → Type 0
+  IsIdle lock number pass = IsOf lock pass × (pass.holds ≡ false) × (pass.number ≡ number)
+
+  -- these are the passes with the numbers from n on, and they hold nothing
+  abbrev pub AreIdle : Lock E → ℕ → List (Caller E) → Type 0
+  AreIdle lock n [] = Unit {0}
+  AreIdle lock n (p ∷ ps) = IsIdle lock n p × AreIdle lock (n + 1) ps
 
   -- the pass with this number as the lock is made: it has seen the lock's first story
   abbrev pub new_pass : Lock E → ℕ → Caller E

@@ -4,6 +4,8 @@
 
 mod lock;
 mod steps;
+#[cfg(test)]
+mod tests;
 mod view;
 
 pub use lock::{MadeLock, Pass, TurnLock};
