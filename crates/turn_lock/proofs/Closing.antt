@@ -1,5 +1,5 @@
 -- What holds of the value that a closed lock gives out.
-use Rattle.std.proofs.Common.{◌≡◌, ℕ, zero, ◌<◌, List, [], ◌∷◌, ◌++◌, length, Option, Some, None, refl, sym, ap, ◌∙◌, subst, ⊎_elim, arith}
+use Rattle.std.proofs.Common.{◌≡◌, ℕ, ◌<◌, List, Option, Some, sym, ap, ◌∙◌, subst, ⊎_elim}
 use Rattle.std.specs.Prelude.{All, Any, Contains, slice_index_or, unwrap_or}
 use mathlib.Core.Option.{some, some-injective}
 use mathlib.Core.Option as maybe

@@ -1,5 +1,5 @@
 -- Each kind of step keeps the rule: there is one story.
-use Rattle.std.proofs.Common.{◌≡◌, ◌≢◌, ◌⊎◌, ℕ, zero, suc, ◌+◌, ◌-◌, ◌%◌, ◌^◌, ◌<◌, ◌≤◌, ◌==◌, Bool, true, false, cond, List, [], ◌∷◌, ◌++◌, length, set, Option, Some, None, refl, sym, ap, ◌∙◌, subst, inl, inr, ⊎_elim, arith, append_assoc, length-append, length-set, eq-eqb, ne_eqb}
+use Rattle.std.proofs.Common.{◌≡◌, ◌≢◌, ℕ, ◌+◌, ◌%◌, ◌^◌, ◌<◌, ◌==◌, cond, List, [], ◌∷◌, ◌++◌, length, set, Option, Some, None, refl, sym, ap, ◌∙◌, subst, ⊎_elim, arith, append_assoc, length-append, length-set, eq-eqb, ne_eqb}
 use Rattle.std.specs.Prelude.{All, Contains, slice_index, slice_index_or, unwrap_or}
 use Rattle.std.proofs.lemmas.List.{append-nil}
 use Rattle.std.proofs.lemmas.List.Elements.{Contains-append_cases}
@@ -8,15 +8,15 @@ use mathlib.Core.Option.{none, some, some-ne-none, some-injective}
 use mathlib.Core.Option as maybe
 use lib.ListN.{get_elem?}
 use prog.Atomic.{either}
-use Rattle.atomic_table.specs.Table.{State, Me, Act, keeps, takes, gives, put_back, rest, stepped, carried_after, homes_after, Valid, Allows, Splits, Joins, opening}
+use Rattle.atomic_table.specs.Table.{State, Me, Act, keeps, takes, gives, put_back, rest, stepped, carried_after, Valid, Allows, Splits, Joins, opening}
 use Rattle.atomic_table.proofs.Lists.{set_again, set_else, at_longer}
 use Rattle.turn_lock.specs.Seen.{Origin}
 use Rattle.turn_lock.specs.Stories.{entries_by, after, Begins, longer}
 use Rattle.turn_lock.specs.declared.view.Role.{Role}
 use Rattle.turn_lock.specs.declared.view.Role.TheVariants.{Spent, Deals, Rests, Turns}
 use Rattle.turn_lock.specs.declared.view.View.{View}
-use Rattle.turn_lock.specs.Turns.{Place, home, out, busy_of, slot_of, IsLive, next_of, view, spent, dealer, dealt, newcomer, both, Speaks, Poses, Knows, Placed, OneStory, Sat, Took, takes_turn, counts, ends_turn}
-use Rattle.turn_lock.proofs.Lists.{at_place, in_one, one_in, each_set, each_snoc, there_below, after-append, after_whole, longer_cases, longer_begins, in_cons, entries_by-append, none_behind, all_his, none_others, all_below}
+use Rattle.turn_lock.specs.Turns.{Place, home, out, busy_of, slot_of, IsLive, next_of, view, spent, dealer, dealt, newcomer, both, Speaks, Poses, Knows, Placed, OneStory, Took, takes_turn, counts, ends_turn}
+use Rattle.turn_lock.proofs.Lists.{at_place, in_one, one_in, each_set, each_snoc, after-append, after_whole, longer_cases, longer_begins, in_cons, entries_by-append, none_behind, all_his, none_others, all_below}
 
 module _ {T E : Type 0} (origin : T → Origin) (story : T → List E) (caller : E → ℕ) (o : Origin) (first : List E) (all : ℕ) where
   abbrev St : Type 0

@@ -1,5 +1,5 @@
 -- What a pass knows before and after its calls.
-use Rattle.std.proofs.Common.{◌≡◌, ℕ, ◌+◌, ◌-◌, ◌^◌, ◌<◌, Bool, true, false, List, [], ◌∷◌, ◌++◌, length, Some, None, Option, refl, sym, ap, ◌∙◌, subst, ⊎_elim, arith, append_assoc, length-drop}
+use Rattle.std.proofs.Common.{◌≡◌, ℕ, ◌-◌, true, List, [], ◌∷◌, ◌++◌, length, Some, None, Option, refl, sym, ap, ◌∙◌, subst, ⊎_elim, arith, append_assoc, length-drop}
 use Rattle.std.proofs.lemmas.List.Elements.{Contains-append_left, Contains-append_right}
 use Rattle.std.specs.Prelude.{All, Contains, slice_index_or, unwrap_or}
 use Rattle.atomic_table.specs.Table.{Me}
@@ -113,8 +113,8 @@ module _ {T E : Type 0} where
       → t.table_id ≡ s.table_id → t.me ≡ (both s.me.0 other.me.0, s.me.1) → IsSeatOfAll lock (p ∷ done) t
   joined lock done p s other t h his same me =
       let speaks : All (SpeaksFor (both s.me.0 other.me.0)) (p ∷ done) =
-          all_cons (SpeaksFor (both s.me.0 other.me.0)) p done (speaks_too s.me.0 other.me.0 p his.3 his.4)
-          (all_map (SpeaksFor s.me.0) (SpeaksFor (both s.me.0 other.me.0)) done (speaks_both s.me.0 other.me.0) h.speaks) in
+      all_cons (SpeaksFor (both s.me.0 other.me.0)) p done (speaks_too s.me.0 other.me.0 p his.3 his.4)
+      (all_map (SpeaksFor s.me.0) (SpeaksFor (both s.me.0 other.me.0)) done (speaks_both s.me.0 other.me.0) h.speaks) in
       record {
         table = same ∙ h.table;
         rests = ap (λ (m : Me (Option T) (View E)). m.0.role) me;

@@ -1,12 +1,12 @@
 -- What the tests need of lists: passes in the order of their numbers.
-use Rattle.std.proofs.Common.{◌≡◌, ℕ, zero, suc, ◌+◌, ◌<◌, ◌≤◌, Bool, true, false, cond, List, [], ◌∷◌, ◌++◌, length, refl, sym, ap, ◌∙◌, subst, arith, length-append, eq-eqb, ne_eqb, ◌==◌}
+use Rattle.std.proofs.Common.{◌≡◌, ℕ, suc, ◌+◌, ◌<◌, ◌≤◌, Bool, true, false, cond, List, [], ◌∷◌, ◌++◌, length, refl, sym, ap, ◌∙◌, subst, arith, length-append, eq-eqb, ne_eqb, ◌==◌}
 use Rattle.std.specs.Prelude.{All, Any}
 use Rattle.std.specs.List.{list_all}
 use Rattle.std.proofs.lemmas.List.{append-nil}
 use Rattle.std.proofs.lemmas.List.FromFn.{map-range_with_len_more}
 use mathlib.Core.Logic.{dite}
 use native.Mathlib.Decide.{ℕ_discrete}
-use Rattle.turn_lock.specs.Seen.{Lock, Caller, IsOf, IsIdle, AreIdle, new_pass, new_passes}
+use Rattle.turn_lock.specs.Seen.{Lock, Caller, IsOf, AreIdle, new_pass, new_passes}
 use Rattle.turn_lock.specs.Stories.{after}
 use Rattle.turn_lock.proofs.Lists.{all_cons, after_whole}
 
@@ -22,8 +22,8 @@ pub all_tested : (who : ℕ) (xs : List ℕ) → list_all (λ e. e == who) xs �
 all_tested who [] h = λ k d l. absurd (omega arith)
 all_tested who (x ∷ xs) h =
     dite (ℕ_discrete x who)
-        (λ same. all_cons (λ (e : ℕ). e ≡ who) x xs same (all_tested who xs (rw (eq-eqb x who same) at h)))
-        (λ other. let no = rw (ne_eqb x who other) at h in absurd (cc no))
+    (λ same. all_cons (λ (e : ℕ). e ≡ who) x xs same (all_tested who xs (rw (eq-eqb x who same) at h)))
+    (λ other. let no = rw (ne_eqb x who other) at h in absurd (cc no))
 
 snoc_same : {A : Type 0} (xs ys : List A) (p q : A) → xs ++ p ∷ [] ≡ ys ++ q ∷ [] → (xs ≡ ys) × (p ≡ q)
 snoc_same [] [] p q e = (refl, cc e)
@@ -48,5 +48,5 @@ module _ {E : Type 0} (lock : Lock E) where
   every n [] h c low high = absurd (omega arith)
   every n (p ∷ ps) h c low high =
       dite (ℕ_discrete n c)
-          (λ same. (0, p, omega arith, refl, h.0.2 ∙ same))
-          (λ other. let rest = every (n + 1) ps h.1 c (omega arith) (omega arith) in (suc rest.0, rest.1, (let l = rest.2 in omega arith), rest.3, rest.4))
+      (λ same. (0, p, omega arith, refl, h.0.2 ∙ same))
+      (λ other. let rest = every (n + 1) ps h.1 c (omega arith) (omega arith) in (suc rest.0, rest.1, (let l = rest.2 in omega arith), rest.3, rest.4))

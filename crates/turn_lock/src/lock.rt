@@ -151,7 +151,9 @@ fn gather<T: Storied>(lock: &TurnLock<T>, mut passes: Vec<Pass<T>>) -> Place<T>
     };
     let mut all = seat_of(last);
     while let Some(pass) = passes.pop() {
-        lock.table.shared.join_seat::<Gathers>(&mut all, seat_of(pass));
+        lock.table
+            .shared
+            .join_seat::<Gathers>(&mut all, seat_of(pass));
     }
     all
 }
@@ -168,11 +170,7 @@ fn slot_of<T: Storied>(mut closed: Closed<Option<T>, Global>) -> Option<T>
 
 impl<T: Storied> TurnLock<T> {
     /// A lock over the value, with one pass for each caller, numbered from 0. Where memory is wanting the value comes back.
-    pub fn new(
-        alloc: Global,
-        value: T,
-        callers: u32,
-    ) -> Result<MadeLock<T>, (T, Memory)>
+    pub fn new(alloc: Global, value: T, callers: u32) -> Result<MadeLock<T>, (T, Memory)>
         requires { 0 < callers }
         ensures lock { IfOk result (λ m. (m.lock.callers ≡ callers) × (m.lock.origin ≡ T.origin value) × (m.lock.story ≡ T.story value)) }
         ensures passes { IfOk result (λ m. m.passes.items ≡ new_passes m.lock callers) }

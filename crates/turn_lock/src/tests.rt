@@ -48,13 +48,7 @@ impl Book {
     }
 }
 
-fn turn<R: Wait>(
-    rt: &R,
-    lock: &TurnLock<Book>,
-    pass: &mut Pass<Book>,
-    number: u32,
-    entries: &[u32],
-)
+fn turn<R: Wait>(rt: &R, lock: &TurnLock<Book>, pass: &mut Pass<Book>, number: u32, entries: &[u32])
     requires idle { IsIdle lock.now number pass.old }
     requires own { list_all (λ e. e == number) entries.now ≡ true }
     ensures { IsIdle lock.now number pass.new }

@@ -1,4 +1,4 @@
-use Rattle.std.proofs.Common.{◌≡◌, false, ◌∷◌, rules, arith, ap, sym, ◌∙◌}
+use Rattle.std.proofs.Common.{◌≡◌, false, ◌∷◌, arith, ap, sym, ◌∙◌}
 use Rattle.turn_lock.specs.Seen.{Lock, Caller, IsOf}
 use Rattle.turn_lock.proofs.Keeps.{join_kept}
 use Rattle.turn_lock.proofs.Passes.{popped, of_popped, joined}

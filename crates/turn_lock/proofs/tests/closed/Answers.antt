@@ -1,4 +1,4 @@
-use Rattle.std.proofs.Common.{arith, length}
+use Rattle.std.proofs.Common.{arith}
 use Rattle.turn_lock.proofs.Rounds.{all_own, all_rest, every}
 use Rattle.turn_lock.proofs.tests.closed.Goals as goal
 

@@ -1,5 +1,5 @@
-use Rattle.std.proofs.Common.{◌≡◌, ℕ, ◌<◌, Any, Some, sym, ◌∙◌, subst}
-use Rattle.turn_lock.specs.Seen.{Lock, Caller}
+use Rattle.std.proofs.Common.{◌≡◌, ℕ, ◌<◌, Any, sym, ◌∙◌, subst}
+use Rattle.turn_lock.specs.Seen.{Lock}
 use Rattle.turn_lock.proofs.Closing.{Ends, closing, unwrapped}
 use Rattle.turn_lock.proofs.lock.TurnLock.close.Goals as goal
 

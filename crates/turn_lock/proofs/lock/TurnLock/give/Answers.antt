@@ -1,4 +1,4 @@
-use Rattle.std.proofs.Common.{◌≡◌, ℕ, true, List, ap, sym, ◌∙◌, subst, All}
+use Rattle.std.proofs.Common.{◌≡◌, ap, sym, ◌∙◌, subst, All}
 use Rattle.turn_lock.specs.Seen.{Caller, resting}
 use Rattle.turn_lock.specs.Stories.{after, Begins}
 use Rattle.turn_lock.proofs.Passes.{brings, counted_is, is_counted, ended_is, rests_again, gave}

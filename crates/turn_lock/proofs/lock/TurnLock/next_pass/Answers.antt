@@ -1,4 +1,4 @@
-use Rattle.std.proofs.Common.{rules, refl, ap, sym, subst, ◌∙◌}
+use Rattle.std.proofs.Common.{rules, ap}
 use Rattle.turn_lock.proofs.Keeps.{split_kept}
 use Rattle.turn_lock.proofs.lock.TurnLock.next_pass.Goals as goal
 
