@@ -5,6 +5,5 @@
 mod faults;
 mod stories;
 
-pub use faults::Failed;
-pub use faults::Memory;
+pub use faults::{Failed, Memory};
 pub use stories::Storied;
