@@ -6,6 +6,7 @@ mod byte_lists;
 mod faults;
 mod past;
 mod reading;
+mod stories;
 mod suites;
 #[cfg(test)]
 mod tests;
@@ -16,6 +17,7 @@ pub use byte_lists::{Bytes, xor_into};
 pub use faults::{Failed, Memory};
 pub use past::History;
 pub use reading::{MemSource, Source};
+pub use stories::Storied;
 pub use suites::{EncapFault, HopKeys, Kdf, Kem, Mac, PairFault, Shape, Stream, Suite, Wide};
 pub use word_streams::{ListWords, Words};
 pub use writing::{MemSink, PutFault, Sink};

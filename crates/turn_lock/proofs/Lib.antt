@@ -1,0 +1,5 @@
+mod Closing
+mod Keeps
+mod Lists
+mod Passes
+mod Rounds
