@@ -63,3 +63,54 @@ impl<W: Write + Drop> Sink for StdSink<W> {
         }
     }
 }
+
+#[cfg(test)]
+mod tests {
+    use super::*;
+    use std::io;
+    use std::test::Fail;
+
+    /// A stream whose every call fails.
+    #[derive(Drop)]
+    struct Broken;
+
+    impl Read for Broken {
+        fn read(&mut self, _buf: &mut [u8]) -> io::Result<usize> {
+            Err(io::Error::from(io::ErrorKind::BrokenPipe))
+        }
+    }
+
+    impl Write for Broken {
+        fn write(&mut self, _buf: &[u8]) -> io::Result<usize> {
+            Err(io::Error::from(io::ErrorKind::BrokenPipe))
+        }
+
+        fn flush(&mut self) -> io::Result<()> {
+            Ok(())
+        }
+    }
+
+    #[test]
+    fn a_source_gives_what_its_reader_has(rt: HostRuntime) -> Result<(), Fail> {
+        let bytes: &[u8] = b"abc";
+        let mut source = StdSource::new(bytes);
+        let mut buf = [0u8; 2];
+        assert_eq!(rt; source.read(&mut buf), Ok(2));
+        assert_eq!(rt; buf, [b'a', b'b']);
+        assert_eq!(rt; source.read(&mut buf), Ok(1));
+        assert_eq!(rt; source.read(&mut buf), Ok(0));
+        assert_eq!(rt; StdSource::new(Broken).read(&mut buf), Err(Failed));
+        Ok(())
+    }
+
+    #[test]
+    fn a_sink_names_its_writer_s_failure(rt: HostRuntime) -> Result<(), Fail> {
+        let mut sink = StdSink::new(Vec::new(rt.alloc()));
+        assert_eq!(rt; sink.put(rt.alloc(), b"abc"), Ok(()));
+        assert_eq!(rt; sink.writer.as_slice(), b"abc".as_slice());
+        let mut broken = StdSink::new(Broken);
+        assert_eq!(rt; broken.put(rt.alloc(), b"abc"), Err(PutFault::WriteFault));
+        assert_eq!(rt; broken.faults, 1);
+        Ok(())
+    }
+}

@@ -2,11 +2,11 @@
 use Rattle.std.proofs.Common.{◌≡◌, ℕ, ◌∷◌, ◌++◌, List, refl}
 use Rattle.sphinx_unwrap.specs.declared.outcome.Out.{Out}
 use Rattle.sphinx_unwrap.specs.declared.outcome.Out.TheVariants.{Forward, Deliver, Reply, Damaged}
-use Rattle.mix_top.specs.Report.{line_of, words_of}
+use Rattle.mix_top.specs.Report.{line_of, words_behind_tag}
 
 -- four words in front of those behind the tag, of which there is always one
-pub line_of_handed : (kind number epoch tag : List ℕ) (out : Out) → line_of (kind ∷ number ∷ epoch ∷ tag ∷ words_of out)
-    ≡ kind ++ 32 ∷ (number ++ 32 ∷ (epoch ++ 32 ∷ (tag ++ 32 ∷ line_of (words_of out))))
+pub line_of_handed : (kind number epoch tag : List ℕ) (out : Out) → line_of (kind ∷ number ∷ epoch ∷ tag ∷ words_behind_tag out)
+    ≡ kind ++ 32 ∷ (number ++ 32 ∷ (epoch ++ 32 ∷ (tag ++ 32 ∷ line_of (words_behind_tag out))))
 line_of_handed kind number epoch tag (Forward next packet) = refl
 line_of_handed kind number epoch tag (Deliver recipient body block) = refl
 line_of_handed kind number epoch tag (Reply recipient surb payload) = refl

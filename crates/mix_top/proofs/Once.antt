@@ -1,6 +1,6 @@
 -- At most once: a report hands on no pair of epoch and tag twice. Each pair that a node holds or has handed on is
 -- covered by its book ever after, and a covered pair isn't accepted again.
-use Rattle.std.proofs.Common.{◌≡◌, ℕ, zero, suc, ◌+◌, ◌<◌, ◌≤◌, nat_lt, nat_le, Bool, true, false, cond, List, [], ◌∷◌, ◌++◌, length, take, drop, map, ◌⊎◌, inl, inr, refl, ap, ◌∙◌, sym, subst, slice_set, unwrap_or, Option, Some, None, Result, Ok, Err, arith, append_assoc}
+use Rattle.std.proofs.Common.{◌≡◌, ℕ, suc, ◌<◌, ◌≤◌, nat_lt, nat_le, Bool, true, false, cond, List, [], ◌∷◌, ◌++◌, take, drop, map, ◌⊎◌, inl, inr, refl, ap, ◌∙◌, sym, subst, slice_set, unwrap_or, Option, Some, None, Result, Ok, Err, arith}
 use Rattle.std.specs.List.{Contains, remove, slice_get}
 use Rattle.std.proofs.Math.Seq.{drop-cons}
 use Rattle.std.proofs.lemmas.List.{map-append, take-append-drop}
@@ -13,7 +13,7 @@ use Rattle.mix_top.specs.Epochs.{least_live}
 use Rattle.mix_top.specs.Report.{handed, NoneTwice}
 use Rattle.mix_top.specs.Node.{NodeState, new_node}
 use Rattle.mix_top.specs.Run.{Runs}
-use Rattle.mix_top.specs.Step.{Step, peeled, peeled_by, taken, settled, opened_at, worker_at, ClaimsFor, Admits, Sends, received}
+use Rattle.mix_top.specs.Step.{Step, peeled_by, taken, settled, opened_at, worker_at, ClaimsFor, Admits, Sends, received}
 use Rattle.mix_top.specs.declared.items.Arrival.{Arrival}
 use Rattle.mix_top.specs.declared.items.Item.{Item}
 use Rattle.mix_top.specs.declared.items.Setup.{Setup}

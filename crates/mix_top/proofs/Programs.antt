@@ -1,11 +1,11 @@
 -- A whole script is answered: from its node line and its events, with no packet handed on twice.
-use Rattle.std.proofs.Common.{◌≡◌, ℕ, ◌+◌, List, [], ◌∷◌, ◌++◌, take, inl, inr, refl, ap, ◌∙◌, sym, subst, Option, Some, None, IfSome, IsSomeAnd, option_map}
+use Rattle.std.proofs.Common.{◌≡◌, ℕ, ◌+◌, List, [], take, inl, inr, refl, ap, ◌∙◌, sym, subst, Option, Some, None, IfSome, option_map}
 use Rattle.std.proofs.lemmas.List.{append-nil}
 use Rattle.mix_top.proofs.Once.{at_most_once}
-use Rattle.mix_top.specs.Answers.{Owes, IsReportOf, IsReportOfFirst, StopsAt, Answers, AnswersScript}
+use Rattle.mix_top.specs.Answers.{Owes, IsReportOf, IsReportOfFirst, StopsAt, AnswersScript}
 use Rattle.mix_top.specs.Lines.{lines_from}
 use Rattle.mix_top.specs.Node.{new_node}
-use Rattle.mix_top.specs.Program.{Program, Events, Outside, NotBuilt, no_node, program_from, program_of}
+use Rattle.mix_top.specs.Program.{Program, Events, program_from, program_of}
 use Rattle.mix_base.specs.declared.reading.Source.{Ghosts}
 use Rattle.mix_top.specs.Readers.{coming, number_of}
 use Rattle.mix_top.specs.declared.lines.LineReader.{LineReader}

@@ -1,14 +1,14 @@
 -- How progress begins, goes on with each event, and comes to an end.
-use Rattle.std.proofs.Common.{◌≡◌, ℕ, ◌+◌, List, [], ◌∷◌, ◌++◌, length, take, ◌⊎◌, inl, inr, refl, ap, ◌∙◌, sym, subst, append_assoc, Option, Some, None, IsSome, IfSome, IsSomeAnd, rules}
+use Rattle.std.proofs.Common.{◌≡◌, ℕ, ◌+◌, List, [], ◌∷◌, ◌++◌, length, take, inl, inr, refl, ap, ◌∙◌, sym, subst, append_assoc, Option, Some, None, IsSome, IfSome, IsSomeAnd, rules}
 use Rattle.std.proofs.Math.Seq.{take-append-add, take-append_seam, take-length}
 use Rattle.std.proofs.lemmas.List.{take_at, append-nil}
 use Rattle.std.proofs.lemmas.Grind.{flat_map-append}
-use Rattle.mix_top.specs.Answers.{Owes, IsReportOf, IsReportOfFirst}
+use Rattle.mix_top.specs.Answers.{IsReportOfFirst}
 use Rattle.mix_top.specs.Node.{NodeState, new_node}
 use Rattle.mix_top.specs.Program.{Events, Ending, AtEnd, Outside, ends}
 use Rattle.mix_top.specs.Progress.{Progress, Finishes, Tracks, AnswersEvents, EndsEvents, EndsAtEvent, IsMet, IsCut, IsNext}
 use Rattle.mix_top.specs.Readers.{ReachesEnd}
-use Rattle.mix_top.specs.Report.{text, text_of}
+use Rattle.mix_top.specs.Report.{text, line_text}
 use Rattle.mix_top.specs.Run.{Runs}
 use Rattle.mix_top.specs.Step.{Step}
 use Rattle.mix_top.specs.declared.items.Setup.{Setup}
@@ -26,7 +26,7 @@ Runs-push setup (first ∷ events) old report between event lines new (mid, fron
     (mid, front, others ++ lines, first_step, Runs-push setup events mid others between event lines new run step, ap (λ (r : List ReportLine). r ++ lines) joined ∙ append_assoc front others lines)
 
 text-append : (report lines : List ReportLine) → text (report ++ lines) ≡ text report ++ text lines
-text-append report lines = flat_map-append text_of report lines
+text-append report lines = flat_map-append line_text report lines
 
 -- nothing was answered yet
 pub progress_begins : (setup : Setup) (whole : Events) (given : List ℕ) → Progress setup whole whole new_node given given

@@ -1,7 +1,7 @@
 -- What a call of `drive` owes for a script: a report, by how the call ends.
 use Rattle.std.specs.Prelude.{◌≡◌, ℕ, ◌⊎◌, List, [], ◌∷◌, ◌++◌, take, Option, Some, None, IfSome, IsSomeAnd}
 use Rattle.mix_top.specs.Node.{NodeState, new_node}
-use Rattle.mix_top.specs.Program.{Program, Events, Ending, AtEnd, Outside, NotBuilt, program_of}
+use Rattle.mix_top.specs.Program.{Program, AtEnd, Outside, NotBuilt, program_of}
 use Rattle.mix_top.specs.Report.{text, handed, NoneTwice}
 use Rattle.mix_top.specs.Run.{Runs}
 use Rattle.mix_top.specs.Step.{IsNotBuilt}

@@ -1,5 +1,5 @@
 -- Epochs of time and which of them are live at a moment. Moments and lengths are in milliseconds.
-use Rattle.std.specs.Prelude.{ℕ, ◌+◌, ◌-◌, ◌*◌, ◌/◌, ◌^◌, ◌<◌, ◌≤◌, ◌==◌, ◌&&◌, nat_le, nat_lt, not, Bool, List, [], ◌∷◌, filter}
+use Rattle.std.specs.Prelude.{ℕ, ◌+◌, ◌-◌, ◌*◌, ◌/◌, ◌^◌, ◌≤◌, ◌==◌, ◌&&◌, nat_le, nat_lt, not, Bool, List, [], ◌∷◌, filter}
 
 -- the length of an epoch, and the grace for which it is live before it begins and after it ends
 pub record EpochTimes : Type 0 where

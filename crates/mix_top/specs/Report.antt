@@ -36,15 +36,15 @@ kind_of (Deliver recipient body block) = codes "deliver"
 kind_of (Reply recipient surb payload) = codes "reply"
 kind_of (Damaged recipient) = codes "damaged"
 
-abbrev pub words_of : Out → List (List ℕ)
-words_of (Forward next packet) = encode_lower next ∷ encode_lower packet ∷ []
-words_of (Deliver recipient body block) = encode_lower recipient ∷ encode_lower body ∷ block_word block ∷ []
-words_of (Reply recipient surb payload) = encode_lower recipient ∷ encode_lower surb ∷ encode_lower payload ∷ []
-words_of (Damaged recipient) = encode_lower recipient ∷ []
+abbrev pub words_behind_tag : Out → List (List ℕ)
+words_behind_tag (Forward next packet) = encode_lower next ∷ encode_lower packet ∷ []
+words_behind_tag (Deliver recipient body block) = encode_lower recipient ∷ encode_lower body ∷ block_word block ∷ []
+words_behind_tag (Reply recipient surb payload) = encode_lower recipient ∷ encode_lower surb ∷ encode_lower payload ∷ []
+words_behind_tag (Damaged recipient) = encode_lower recipient ∷ []
 
 -- the line of a packet that is handed on
 abbrev pub handed_words : Item → List (List ℕ)
-handed_words item = kind_of item.out ∷ decimal item.number ∷ decimal item.epoch ∷ encode_lower item.tag ∷ words_of item.out
+handed_words item = kind_of item.out ∷ decimal item.number ∷ decimal item.epoch ∷ encode_lower item.tag ∷ words_behind_tag item.out
 
 -- a line's words
 abbrev pub words_of_line : ReportLine → List (List ℕ)
@@ -58,12 +58,12 @@ words_of_line (Handed item) = handed_words item
 words_of_line NoneDue = codes "none" ∷ []
 
 -- the text of one line
-abbrev pub text_of : ReportLine → List ℕ
-text_of line = line_of (words_of_line line)
+abbrev pub line_text : ReportLine → List ℕ
+line_text line = line_of (words_of_line line)
 
 -- the text of a report
 abbrev pub text : List ReportLine → List ℕ
-text lines = flat_map text_of lines
+text lines = flat_map line_text lines
 
 -- the pairs of epoch and tag that a report hands on
 abbrev pub handed : List ReportLine → List (ℕ × List ℕ)

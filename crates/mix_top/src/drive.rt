@@ -1,6 +1,6 @@
 // `drive`: a script is read line by line, a node goes through its events, and each event's line of the report is
 // written before the next line is read.
-ghost use Rattle.std.specs.Prelude.{◌≡◌, ℕ, ◌+◌, ◌-◌, ◌^◌, ◌<◌, ◌≤◌, ◌∷◌, IfOk, IfErr, OnOk, OnErr, IfSome, IfNone, IsSomeAnd, IsErrOf, IsSome, IsOk, List, [], ◌++◌, Some};
+ghost use Rattle.std.specs.Prelude.{◌≡◌, ℕ, ◌+◌, ◌-◌, ◌^◌, ◌<◌, ◌≤◌, ◌∷◌, IfOk, IfErr, OnOk, OnErr, IfSome, IfNone, IsSomeAnd, IsErrOf, IsSome, List, [], ◌++◌, Some};
 ghost use Rattle.std.specs.Option.{option_to_list};
 ghost use Rattle.mix_base.specs.Faults.{Rose};
 ghost use Rattle.mix_top.specs.Node.{new_node};
@@ -13,12 +13,12 @@ ghost use Rattle.mix_top.specs.Report as reports;
 ghost use Rattle.mix_top.specs.Readers.{source_of, number_of, ReachesEnd};
 ghost use Rattle.mix_top.specs.Script.{IsEventInRange, node_of};
 ghost use Rattle.mix_top.specs.Seen.{seen};
-ghost use Rattle.mix_top.specs.Step.{Step, IsNotBuilt};
+ghost use Rattle.mix_top.specs.Step.{Step};
 
 use crate::items::Setup;
 use crate::lines::{LineFault, LineReader};
 use crate::node::{Node, Stop};
-use crate::report::{ReportLine, text};
+use crate::report::{ReportLine, spell};
 use crate::script::{Event, is_skipped, read_event, read_node};
 use crate::statuses::Status;
 use crate::times::{Moment, Times};
@@ -105,7 +105,7 @@ fn put_line<O: Sink>(alloc: Global, sink: &mut O, line: &ReportLine) -> Result<(
     ensures fault { IsErrOf result PutFault.WriteFault → Rose (O.faults sink.old) (O.faults sink.new) }
     ensures count { O.faults sink.old ≤ O.faults sink.new }
 {
-    let line = text(alloc, line)?;
+    let line = spell(alloc, line)?;
     sink.put(alloc, line.as_bytes())
 }
 

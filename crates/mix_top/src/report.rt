@@ -1,7 +1,7 @@
 // The lines of the report, and their text.
 ghost use Rattle.std.specs.Prelude.{◌≡◌, [], ◌∷◌, IfOk, string_bytes};
 ghost use Rattle.hex.specs.Hex.{encode_lower};
-ghost use Rattle.mix_top.specs.Report.{text_of, why_of, kind_of, words_of, block_word, line_of, handed_words};
+ghost use Rattle.mix_top.specs.Report.{line_text, why_of, kind_of, words_behind_tag, block_word, line_of, handed_words};
 
 use crate::items::Item;
 use mix_base::{Bytes, Memory};
@@ -30,8 +30,8 @@ pub enum ReportLine {
 }
 
 /// The text of a line, with its line feed.
-pub fn text(alloc: Global, line: &ReportLine) -> Result<String, Memory>
-    ensures { IfOk result (λ text. string_bytes text ≡ text_of line.now) }
+pub fn spell(alloc: Global, line: &ReportLine) -> Result<String, Memory>
+    ensures { IfOk result (λ text. string_bytes text ≡ line_text line.now) }
 {
     let text = match line {
         ReportLine::Refuse { number, why } => {
@@ -91,7 +91,7 @@ fn kind_word(out: &Out) -> &'static str
 
 /// What stands behind the tag in such a line.
 fn tail_text(alloc: Global, out: &Out) -> Result<String, AllocError>
-    ensures { IfOk result (λ text. string_bytes text ≡ line_of (words_of out.now)) }
+    ensures { IfOk result (λ text. string_bytes text ≡ line_of (words_behind_tag out.now)) }
 {
     match out {
         Out::Forward { next, packet } => two_words(alloc, next.as_slice(), packet.as_slice()),

@@ -1,10 +1,10 @@
-use Rattle.std.proofs.Common.{rules, arith, ◌≡◌, ◌∙◌, ℕ, List, Option, Some, ◌+◌, None, IsSome, IfNone, IfSome, IsSomeAnd, subst, sym}
+use Rattle.std.proofs.Common.{rules, arith, ◌≡◌, ◌∙◌, Option, ◌+◌, IsSome, IfNone, IfSome, IsSomeAnd, subst}
 use Rattle.std.proofs.lemmas.Result.{err_from_is_err_and}
-use Rattle.mix_top.specs.Progress.{events_to_come, Tracks, AnswersEvents, IsNext, IsMet, EndsAtEvent}
+use Rattle.mix_top.specs.Progress.{events_to_come, IsNext, IsMet, EndsAtEvent}
 use Rattle.mix_top.specs.Readers.{source_of, number_of, ReachesEnd}
 use Rattle.mix_top.specs.Seen.{seen}
 use Rattle.mix_top.specs.declared.script.Event.{Event}
-use Rattle.mix_top.proofs.Tracking.{tracks_go_on, tracks_end, tracks_stop, tracks_stop_at, tells_on, reaches_end}
+use Rattle.mix_top.proofs.Tracking.{tracks_go_on, tracks_stop, tracks_stop_at, tells_on, reaches_end}
 use Rattle.mix_top.proofs.drive.answer_events.Goals as goal
 
 pub returns-in_err-event-clause-stops : goal.returns-in_err-event-clause-stops

@@ -1,4 +1,4 @@
-use Rattle.std.proofs.Common.{ℕ, List, Option, subst}
+use Rattle.std.proofs.Common.{Option, subst}
 use Rattle.mix_top.proofs.Programs.{script_answered, program_at_start}
 use Rattle.mix_top.specs.Program.{Program}
 use Rattle.mix_top.specs.Progress.{AnswersProgram}
