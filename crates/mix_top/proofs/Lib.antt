@@ -1,6 +1,7 @@
 pub mod Giving
 pub mod HandedLines
 pub mod LinesOf
+pub mod LiveEpochs
 pub mod Members
 pub mod Once
 pub mod Programs

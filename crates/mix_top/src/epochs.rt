@@ -1,7 +1,7 @@
 // Epochs of time: each is live for a while before it begins and after it ends, so at a moment one or two are.
-ghost use Rattle.std.specs.Prelude.{◌≡◌, ◌^◌, ◌<◌, ◌∷◌};
+ghost use Rattle.std.specs.Prelude.{◌≡◌, ℕ, ◌^◌, ◌<◌, ◌↔◌, ◌∷◌, IsTrue, Contains};
 ghost use Rattle.std.specs.Option.{option_to_list};
-ghost use Rattle.mix_top.specs.Epochs.{current, live_epochs};
+ghost use Rattle.mix_top.specs.Epochs.{is_live, current, live_epochs};
 ghost use Rattle.mix_top.specs.Epochs as epochs;
 
 use crate::times::{Live, Times};
@@ -11,6 +11,8 @@ pub fn live(moment: u64, times: &Times) -> Live
     requires { moment < 2 ^ 60 }
     ensures first { result.first ≡ current times.now moment }
     ensures all { result.first ∷ option_to_list result.other ≡ live_epochs times.now moment }
+    ensures exactly { (epoch : ℕ) →
+        IsTrue (is_live times.now epoch moment) ↔ Contains (live_epochs times.now moment) epoch }
 {
     let epoch = times.epoch();
     let grace = times.grace();
