@@ -1,4 +1,4 @@
 // What no proof sees: that lines and texts come out as meant, and that whole scripts answer as they are owed.
 mod packets;
-mod rows;
 mod script_lines;
+mod whole_scripts;
