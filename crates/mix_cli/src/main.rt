@@ -4,7 +4,8 @@
 
 mod streams;
 
-use mix_top::{Status, code, mix_command, write_status};
+use lab_text::{Status, code, write_status};
+use mix_top::mix_command;
 use std::process::ExitCode;
 use std::rt::Env;
 use std::{env, io};

@@ -1,9 +1,6 @@
-pub mod Giving
 pub mod HandedLines
-pub mod LinesOf
 pub mod LiveEpochs
 pub mod Members
 pub mod Once
 pub mod Programs
 pub mod Tracking
-pub mod WordsOf

@@ -1,6 +1,6 @@
 -- At most once: a report hands on no pair of epoch and tag twice. Each pair that a node holds or has handed on is
 -- covered by its book ever after, and a covered pair isn't accepted again.
-use Rattle.std.proofs.Common.{◌≡◌, ℕ, suc, ◌<◌, ◌≤◌, nat_lt, nat_le, Bool, true, false, cond, List, [], ◌∷◌, ◌++◌, take, drop, map, ◌⊎◌, inl, inr, refl, ap, ◌∙◌, sym, subst, slice_set, unwrap_or, Option, Some, None, Result, Ok, Err, arith}
+use Rattle.std.proofs.Common.{◌≡◌, ℕ, suc, ◌<◌, ◌≤◌, nat_lt, nat_le, Bool, true, false, cond, List, [], ◌∷◌, ◌++◌, take, drop, map, ◌⊎◌, inl, inr, refl, ap, ◌∙◌, sym, subst, slice_set, Option, Some, None, Result, Ok, Err, arith}
 use Rattle.std.specs.List.{Contains, remove, slice_get}
 use Rattle.std.proofs.Math.Seq.{drop-cons}
 use Rattle.std.proofs.lemmas.List.{map-append, take-append-drop}
@@ -25,7 +25,6 @@ use Rattle.mix_top.specs.declared.book.Claim.{Claim}
 use Rattle.mix_top.specs.declared.book.Claim.TheVariants as claims
 use Rattle.sphinx_unwrap.specs.declared.outcome.Opened.{Opened}
 use Rattle.sphinx_unwrap.specs.declared.fault.Refused.{Refused}
-use Rattle.sphinx_unwrap.specs.declared.fault.Refused.TheVariants as refusals
 
 -- the pair is below the floor, or spent
 abbrev pub Covers : Book → ℕ × List ℕ → Type 0
@@ -78,27 +77,20 @@ keeps old made lines new nothing held book same =
     (sym (ap (λ (m : List ReportLine × NodeState). m.1.held) same) ∙ held)
     (sym (ap (λ (m : List ReportLine × NodeState). m.1.book) same) ∙ book)
 
-made_is : (made : List ReportLine × NodeState) (lines : List ReportLine) (new : NodeState) → Some made ≡ Some (lines, new) → made ≡ (lines, new)
-made_is made lines new same = ap (λ (o : Option (List ReportLine × NodeState)). unwrap_or o made) same
-
 settled_moves : (old state : NodeState) (worker : ℕ) (arrival : Arrival) (found : Result (ℕ × Opened) Refused) (lines : List ReportLine) (new : NodeState)
-    → state.held ≡ old.held → state.book ≡ old.book → settled state worker arrival found ≡ Some (lines, new) → Moves old lines new
-settled_moves old state worker arrival (Ok found) lines new held book same = keeps old _ lines new refl held book (made_is _ lines new same)
-settled_moves old state worker arrival (Err refusals.Length) lines new held book same = keeps old _ lines new refl held book (made_is _ lines new same)
-settled_moves old state worker arrival (Err refusals.Version) lines new held book same = keeps old _ lines new refl held book (made_is _ lines new same)
-settled_moves old state worker arrival (Err refusals.Sealed) lines new held book same = keeps old _ lines new refl held book (made_is _ lines new same)
-settled_moves old state worker arrival (Err refusals.Commands) lines new held book same = keeps old _ lines new refl held book (made_is _ lines new same)
-settled_moves old state worker arrival (Err refusals.Later) lines new held book same = cc
+    → state.held ≡ old.held → state.book ≡ old.book → settled state worker arrival found ≡ (lines, new) → Moves old lines new
+settled_moves old state worker arrival (Ok found) lines new held book same = keeps old _ lines new refl held book same
+settled_moves old state worker arrival (Err why) lines new held book same = keeps old _ lines new refl held book same
 
 taken_moves : (setup : Setup) (old : NodeState) (worker : ℕ) (arrivals : List Arrival) (lines : List ReportLine) (new : NodeState)
-    → taken setup old worker arrivals ≡ Some (lines, new) → Moves old lines new
-taken_moves setup old worker [] lines new same = keeps old _ lines new refl refl refl (made_is _ lines new same)
+    → taken setup old worker arrivals ≡ (lines, new) → Moves old lines new
+taken_moves setup old worker [] lines new same = keeps old _ lines new refl refl refl same
 taken_moves setup old worker (arrival ∷ others) lines new same =
     settled_moves old (record old { arrivals = others }) worker arrival (opened_at setup arrival) lines new refl refl same
 
 peel_moves : (setup : Setup) (old : NodeState) (worker : ℕ) (holds : Option Item) (lines : List ReportLine) (new : NodeState)
-    → peeled_by setup old worker holds ≡ Some (lines, new) → Moves old lines new
-peel_moves setup old worker (Some item) lines new same = keeps old _ lines new refl refl refl (made_is _ lines new same)
+    → peeled_by setup old worker holds ≡ (lines, new) → Moves old lines new
+peel_moves setup old worker (Some item) lines new same = keeps old _ lines new refl refl refl same
 peel_moves setup old worker None lines new same = taken_moves setup old worker old.arrivals lines new same
 
 -- lines that hand nothing on, and the same packets and book, from what a step says of them

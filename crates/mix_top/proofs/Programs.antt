@@ -3,19 +3,19 @@ use Rattle.std.proofs.Common.{◌≡◌, ℕ, ◌+◌, List, [], take, inl, inr,
 use Rattle.std.proofs.lemmas.List.{append-nil}
 use Rattle.mix_top.proofs.Once.{at_most_once}
 use Rattle.mix_top.specs.Answers.{Owes, IsReportOf, IsReportOfFirst, StopsAt, AnswersScript}
-use Rattle.mix_top.specs.Lines.{lines_from}
+use Rattle.lab_text.specs.Lines.{lines_from}
 use Rattle.mix_top.specs.Node.{new_node}
 use Rattle.mix_top.specs.Program.{Program, Events, program_from, program_of}
 use Rattle.mix_base.specs.declared.reading.Source.{Ghosts}
-use Rattle.mix_top.specs.Readers.{coming, number_of}
-use Rattle.mix_top.specs.declared.lines.LineReader.{LineReader}
+use Rattle.lab_text.specs.Readers.{coming, number_of}
+use Rattle.lab_text.specs.declared.lines.LineReader.{LineReader}
 use Rattle.mix_top.specs.Progress.{program_to_come, AnswersEvents, AnswersProgram, EndsProgram, Finishes, FinishesProgram, SetsUp}
 use Rattle.mix_top.specs.Report.{handed, NoneTwice}
 use Rattle.mix_top.specs.declared.items.Setup.{Setup}
 use Rattle.mix_top.specs.declared.report.ReportLine.{ReportLine}
 use Rattle.mix_top.specs.declared.script.Event.{Event}
-use Rattle.mix_top.specs.declared.statuses.Status.{Status}
-use Rattle.mix_top.specs.declared.statuses.Status.TheVariants.{Done, Words, Line, ReadFault, WriteFault, Memory, Later}
+use Rattle.lab_text.specs.declared.statuses.Status.{Status}
+use Rattle.lab_text.specs.declared.statuses.Status.TheVariants.{Done, Words, Line, ReadFault, WriteFault, Memory, Later}
 
 -- no report hands on a packet twice
 

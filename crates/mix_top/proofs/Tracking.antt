@@ -7,15 +7,15 @@ use Rattle.mix_top.specs.Answers.{IsReportOfFirst}
 use Rattle.mix_top.specs.Node.{NodeState, new_node}
 use Rattle.mix_top.specs.Program.{Events, Ending, AtEnd, Outside, ends}
 use Rattle.mix_top.specs.Progress.{Progress, Finishes, Tracks, AnswersEvents, EndsEvents, EndsAtEvent, IsMet, IsCut, IsNext}
-use Rattle.mix_top.specs.Readers.{ReachesEnd}
+use Rattle.lab_text.specs.Readers.{ReachesEnd}
 use Rattle.mix_top.specs.Report.{text, line_text}
 use Rattle.mix_top.specs.Run.{Runs}
 use Rattle.mix_top.specs.Step.{Step}
 use Rattle.mix_top.specs.declared.items.Setup.{Setup}
 use Rattle.mix_top.specs.declared.report.ReportLine.{ReportLine}
 use Rattle.mix_top.specs.declared.script.Event.{Event}
-use Rattle.mix_top.specs.declared.statuses.Status.{Status}
-use Rattle.mix_top.specs.declared.statuses.Status.TheVariants.{Done, Words, Line, ReadFault, WriteFault, Memory, Later}
+use Rattle.lab_text.specs.declared.statuses.Status.{Status}
+use Rattle.lab_text.specs.declared.statuses.Status.TheVariants.{Done, Words, Line, ReadFault, WriteFault, Memory, Later}
 
 -- a run goes on by one event
 Runs-push : (setup : Setup) (events : List (ℕ × Event)) (old : NodeState) (report : List ReportLine) (between : NodeState) (event : ℕ × Event) (lines : List ReportLine) (new : NodeState)

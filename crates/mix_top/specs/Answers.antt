@@ -8,8 +8,8 @@ use Rattle.mix_top.specs.Step.{IsNotBuilt}
 use Rattle.mix_top.specs.declared.items.Setup.{Setup}
 use Rattle.mix_top.specs.declared.report.ReportLine.{ReportLine}
 use Rattle.mix_top.specs.declared.script.Event.{Event}
-use Rattle.mix_top.specs.declared.statuses.Status.{Status}
-use Rattle.mix_top.specs.declared.statuses.Status.TheVariants.{Done, Words, Line, ReadFault, WriteFault, Memory, Later}
+use Rattle.lab_text.specs.declared.statuses.Status.{Status}
+use Rattle.lab_text.specs.declared.statuses.Status.TheVariants.{Done, Words, Line, ReadFault, WriteFault, Memory, Later}
 
 -- a new node goes through the events, from the first to the last, and gives this report
 abbrev pub IsReportOf : Option Setup → List (ℕ × Event) → List ReportLine → Type 0
@@ -21,7 +21,7 @@ abbrev pub StopsAt : Option Setup → List (ℕ × Event) → ℕ → List Repor
 StopsAt None events number report = ⊥
 StopsAt (Some setup) events number report =
     (before : List (ℕ × Event)) × (event : Event) × (after : List (ℕ × Event)) × (state : NodeState)
-    × (events ≡ before ++ (number, event) ∷ after) × Runs setup new_node before report state × IsNotBuilt setup state event
+    × (events ≡ before ++ (number, event) ∷ after) × Runs setup new_node before report state × IsNotBuilt event
 
 -- the report of the script's first events
 abbrev pub IsReportOfFirst : Program → List ReportLine → Type 0

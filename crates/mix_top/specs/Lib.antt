@@ -3,15 +3,11 @@ pub mod Book
 pub mod Commands
 pub mod Epochs
 pub mod Keys
-pub mod Lines
 pub mod Node
 pub mod Program
 pub mod Progress
-pub mod Readers
 pub mod Report
 pub mod Run
 pub mod Script
 pub mod Seen
-pub mod Statuses
 pub mod Step
-pub mod Words

@@ -1,23 +1,19 @@
 -- How far a script has been answered: what is still to come of it, and how a step on the way may end it.
 use Rattle.std.specs.Prelude.{◌≡◌, ℕ, ◌+◌, ◌⊎◌, List, ◌∷◌, ◌++◌, take, Option, Some, IfSome, IsSomeAnd, option_map}
 use Rattle.mix_base.specs.declared.reading.Source.{Ghosts}
-use Rattle.mix_base.specs.declared.writing.PutFault.{PutFault}
-use Rattle.mix_base.specs.declared.writing.PutFault.TheVariants as puts
 use Rattle.mix_top.specs.Answers.{Owes, IsGiven}
 use Rattle.mix_top.specs.Node.{NodeState, new_node}
 use Rattle.mix_top.specs.Program.{Events, Program, Outside, NotBuilt, ends, events_from, program_from, no_node}
-use Rattle.mix_top.specs.Readers.{coming, number_of}
+use Rattle.lab_text.specs.Readers.{coming, number_of}
 use Rattle.mix_top.specs.Report.{text}
 use Rattle.mix_top.specs.Run.{Runs}
 use Rattle.mix_top.specs.Step.{Step, IsNotBuilt}
 use Rattle.mix_top.specs.declared.items.Setup.{Setup}
-use Rattle.mix_top.specs.declared.lines.LineFault.{LineFault}
-use Rattle.mix_top.specs.declared.lines.LineFault.TheVariants as faults
-use Rattle.mix_top.specs.declared.lines.LineReader.{LineReader}
+use Rattle.lab_text.specs.declared.lines.LineReader.{LineReader}
 use Rattle.mix_top.specs.declared.report.ReportLine.{ReportLine}
 use Rattle.mix_top.specs.declared.script.Event.{Event}
-use Rattle.mix_top.specs.declared.statuses.Status.{Status}
-use Rattle.mix_top.specs.declared.statuses.Status.TheVariants.{Done, Words, Line, ReadFault, WriteFault, Memory, Later}
+use Rattle.lab_text.specs.declared.statuses.Status.{Status}
+use Rattle.lab_text.specs.declared.statuses.Status.TheVariants.{Done, Words, Line, ReadFault, WriteFault, Memory, Later}
 
 -- the events to come, where the source tells what is left
 abbrev pub events_to_come : {I : Type 0} {G : Ghosts I} → LineReader I G → Option Events
@@ -26,17 +22,6 @@ events_to_come reader = option_map (events_from (number_of reader + 1)) (coming 
 -- the program to come, where the source tells what is left
 abbrev pub program_to_come : {I : Type 0} {G : Ghosts I} → LineReader I G → Option Program
 program_to_come reader = option_map (program_from (number_of reader + 1)) (coming reader)
-
--- the status of a fault in reading a line
-abbrev pub status_of : LineFault → Status
-status_of (faults.BadLine number) = Line number
-status_of faults.ReadFault = ReadFault
-status_of faults.Memory = Memory
-
--- the status of a fault in writing a line of the report
-abbrev pub status_of_put : PutFault → Status
-status_of_put puts.WriteFault = WriteFault
-status_of_put puts.Memory = Memory
 
 -- reading the next event ended with a status, where these events were to come
 abbrev pub EndsEvents : Events → Status → Type 0
@@ -96,7 +81,7 @@ IsCut setup old event before after =
 
 -- an event, with the number of its line, ended the script with a status
 abbrev pub EndsAtEvent : Setup → NodeState → ℕ × Event → Status → List ℕ → List ℕ → Type 0
-EndsAtEvent setup old event (Later number) before after = (number ≡ event.0) × IsNotBuilt setup old event.1 × (after ≡ before)
+EndsAtEvent setup old event (Later number) before after = (number ≡ event.0) × IsNotBuilt event.1 × (after ≡ before)
 EndsAtEvent setup old event WriteFault before after = IsCut setup old event.1 before after
 EndsAtEvent setup old event Memory before after = IsCut setup old event.1 before after
 EndsAtEvent setup old event (Line number) before after = ⊥

@@ -5,7 +5,7 @@ use Rattle.hex.specs.Hex.{encode_lower}
 use Rattle.sphinx_unwrap.specs.declared.outcome.Out.{Out}
 use Rattle.sphinx_unwrap.specs.declared.outcome.Out.TheVariants.{Forward, Deliver, Reply, Damaged}
 use Rattle.sphinx_unwrap.specs.declared.fault.Refused.{Refused}
-use Rattle.sphinx_unwrap.specs.declared.fault.Refused.TheVariants.{Length, Version, Sealed, Commands, Later}
+use Rattle.sphinx_unwrap.specs.declared.fault.Refused.TheVariants.{Length, Version, Sealed, Commands}
 use Rattle.mix_top.specs.declared.items.Item.{Item}
 use Rattle.mix_top.specs.declared.report.ReportLine.{ReportLine}
 use Rattle.mix_top.specs.declared.report.ReportLine.TheVariants.{Refuse, Idle, Busy, Retired, Spent, Empty, Handed, NoneDue}
@@ -22,7 +22,6 @@ why_of Length = codes "length"
 why_of Version = codes "version"
 why_of Sealed = codes "sealed"
 why_of Commands = codes "commands"
-why_of Later = codes "later"
 
 -- a block as a word: a dash where there is none
 abbrev pub block_word : Option (List ℕ) → List ℕ

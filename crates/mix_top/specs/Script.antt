@@ -1,12 +1,12 @@
 -- The lines of a script of `drive`: what each says, if it is in the grammar.
 use Rattle.std.specs.Prelude.{◌≡◌, ℕ, ◌-◌, ◌/◌, ◌^◌, ◌<◌, ◌≤◌, Bool, true, false, ◌==◌, ◌||◌, if◌then◌else◌, List, [], ◌∷◌, slice_index, Option, Some, None, Result, Ok, Err, codes}
 use Rattle.std.specs.Str.{bytes_eq}
-use Rattle.mix_top.specs.Words.{◌>>=◌, words_of, number_in, bytes_of, seed_of}
+use Rattle.lab_text.specs.Words.{◌>>=◌, words_of, number_in, bytes_of, seed_of}
 use Rattle.mix_top.specs.declared.script.Event.{Event}
 use Rattle.mix_top.specs.declared.script.Event.TheVariants.{Recv, Peel, Claim, Send, Skip, Later}
 use Rattle.mix_top.specs.declared.script.NodeLine.{NodeLine}
-use Rattle.mix_top.specs.declared.lines.LineFault.{LineFault}
-use Rattle.mix_top.specs.declared.lines.LineFault.TheVariants.{BadLine, ReadFault, Memory}
+use Rattle.lab_text.specs.declared.lines.LineFault.{LineFault}
+use Rattle.lab_text.specs.declared.lines.LineFault.TheVariants.{BadLine, ReadFault, Memory}
 
 -- the one word there is
 abbrev pub only_word : List (List ℕ) → Option (List ℕ)

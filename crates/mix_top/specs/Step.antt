@@ -3,7 +3,6 @@ use Rattle.std.specs.Prelude.{◌≡◌, ℕ, ◌+◌, ◌<◌, ◌≤◌, ◌�
 use Rattle.sphinx_unwrap.specs.Outcome.{unwrapped}
 use Rattle.sphinx_unwrap.specs.declared.outcome.Opened.{Opened}
 use Rattle.sphinx_unwrap.specs.declared.fault.Refused.{Refused}
-use Rattle.sphinx_unwrap.specs.declared.fault.Refused.TheVariants as refusals
 use Rattle.prim_std.specs.Laboratory.{lab_scheme, lab_meaning}
 use Rattle.mix_top.specs.Epochs.{live_epochs, least_live}
 use Rattle.mix_top.specs.Keys.{secret_key_of, first_open}
@@ -47,29 +46,27 @@ item_of arrival epoch opened = record {
   packet = arrival.packet;
 }
 
--- the worker holds the unwrapped packet, or it was refused; none where its form isn't built yet
-abbrev pub settled : NodeState → ℕ → Arrival → Result (ℕ × Opened) Refused → Option (List ReportLine × NodeState)
-settled old worker arrival (Ok found) =
-    Some ([], record old { workers = slice_set old.workers worker (Some (item_of arrival found.0 found.1)) })
-settled old worker arrival (Err refusals.Later) = None
-settled old worker arrival (Err why) = Some (Refuse arrival.number why ∷ [], old)
+-- the worker holds the unwrapped packet, or it was refused
+abbrev pub settled : NodeState → ℕ → Arrival → Result (ℕ × Opened) Refused → List ReportLine × NodeState
+settled old worker arrival (Ok found) = ([], record old { workers = slice_set old.workers worker (Some (item_of arrival found.0 found.1)) })
+settled old worker arrival (Err why) = (Refuse arrival.number why ∷ [], old)
 
 -- a worker that holds nothing takes the oldest arrival
-abbrev pub taken : Setup → NodeState → ℕ → List Arrival → Option (List ReportLine × NodeState)
-taken setup old worker [] = Some (Idle worker ∷ [], old)
+abbrev pub taken : Setup → NodeState → ℕ → List Arrival → List ReportLine × NodeState
+taken setup old worker [] = (Idle worker ∷ [], old)
 taken setup old worker (arrival ∷ others) = settled (record old { arrivals = others }) worker arrival (opened_at setup arrival)
 
 -- a worker takes and unwraps the oldest arrival, where it holds nothing yet
-abbrev pub peeled_by : Setup → NodeState → ℕ → Option Item → Option (List ReportLine × NodeState)
-peeled_by setup old worker (Some item) = Some (Busy worker ∷ [], old)
+abbrev pub peeled_by : Setup → NodeState → ℕ → Option Item → List ReportLine × NodeState
+peeled_by setup old worker (Some item) = (Busy worker ∷ [], old)
 peeled_by setup old worker None = taken setup old worker old.arrivals
 
 -- what the worker holds
 abbrev pub worker_at : NodeState → ℕ → Option Item
 worker_at state worker = slice_index_or state.workers worker None
 
--- the worker's peel: its lines and the node after it; none where the packet's form isn't built yet
-abbrev pub peeled : Setup → NodeState → ℕ → Option (List ReportLine × NodeState)
+-- the worker's peel: its lines and the node after it
+abbrev pub peeled : Setup → NodeState → ℕ → List ReportLine × NodeState
 peeled setup old worker = peeled_by setup old worker (worker_at old worker)
 
 -- what a claim's answer does: an accepted packet is held, each other one is gone
@@ -110,14 +107,13 @@ Sends old moment lines new =
 -- one event, with the lines that it gives
 abbrev pub Step : Setup → NodeState → Event → List ReportLine → NodeState → Type 0
 Step setup old (events.Recv moment packet) lines new = (lines ≡ []) × (new ≡ received old moment packet)
-Step setup old (events.Peel worker) lines new = peeled setup old worker ≡ Some (lines, new)
+Step setup old (events.Peel worker) lines new = peeled setup old worker ≡ (lines, new)
 Step setup old (events.Claim worker) lines new = ClaimsFor setup old worker (worker_at old worker) lines new
 Step setup old (events.Send moment) lines new = Sends old moment lines new
 Step setup old events.Skip lines new = (lines ≡ []) × (new ≡ old)
 Step setup old events.Later lines new = ⊥
 
--- a line of a form that isn't built yet, or a peel whose packet has such a form
-abbrev pub IsNotBuilt : Setup → NodeState → Event → Type 0
-IsNotBuilt setup old events.Later = Unit {0}
-IsNotBuilt setup old (events.Peel worker) = peeled setup old worker ≡ None
-IsNotBuilt setup old _ = ⊥
+-- a line of a form that isn't built yet
+abbrev pub IsNotBuilt : Event → Type 0
+IsNotBuilt events.Later = Unit {0}
+IsNotBuilt _ = ⊥

@@ -4,10 +4,10 @@ ghost use Rattle.std.specs.Prelude.{◌≡◌, ◌≢◌, ◌↔◌, false, map,
 ghost use Rattle.mix_base.specs.Faults.{Rose};
 ghost use Rattle.mix_top.specs.Answers.{AnswersScript};
 ghost use Rattle.mix_top.specs.Commands.{names_drive};
-ghost use Rattle.mix_top.specs.Readers.{ReachesEnd};
+ghost use Rattle.lab_text.specs.Readers.{ReachesEnd};
 
 use crate::drive::drive;
-use crate::statuses::Status;
+use lab_text::Status;
 use mix_base::{Sink, Source};
 use std::alloc::Global;
 

@@ -5,39 +5,26 @@ ghost use Rattle.std.specs.Option.{option_to_list};
 ghost use Rattle.mix_base.specs.Faults.{Rose};
 ghost use Rattle.mix_top.specs.Node.{new_node};
 ghost use Rattle.mix_top.specs.Answers.{AnswersScript};
-ghost use Rattle.mix_top.specs.Lines.{ScriptLine};
+ghost use Rattle.lab_text.specs.Lines.{ScriptLine};
 ghost use Rattle.mix_top.specs.Program.{AtEnd, ends, events_from, with_node};
-ghost use Rattle.mix_top.specs.Progress.{events_to_come, program_to_come, status_of, status_of_put, EndsEvents, EndsProgram, EndsAtEvent, EndsEvent, EndsReading, IsMet, IsNext, SetsUp, AnswersEvents, AnswersProgram, EndsAnswer};
+ghost use Rattle.mix_top.specs.Progress.{events_to_come, program_to_come, EndsEvents, EndsProgram, EndsAtEvent, EndsEvent, EndsReading, IsMet, IsNext, SetsUp, AnswersEvents, AnswersProgram, EndsAnswer};
 ghost use Rattle.mix_base.specs.Writing.{GivesFront};
 ghost use Rattle.mix_top.specs.Report as reports;
-ghost use Rattle.mix_top.specs.Readers.{source_of, number_of, ReachesEnd};
+ghost use Rattle.lab_text.specs.Readers.{source_of, number_of, ReachesEnd};
 ghost use Rattle.mix_top.specs.Script.{IsEventInRange, node_of};
 ghost use Rattle.mix_top.specs.Seen.{seen};
 ghost use Rattle.mix_top.specs.Step.{Step};
 
 use crate::items::Setup;
-use crate::lines::{LineFault, LineReader};
-use crate::node::{Node, Stop};
+use crate::node::Node;
 use crate::report::{ReportLine, spell};
 use crate::script::{Event, is_skipped, read_event, read_node};
-use crate::statuses::Status;
 use crate::times::{Moment, Times};
+use lab_text::{LineReader, Status};
 use mix_base::{Kem, Memory, PutFault, Sink, Source};
+use packet_form::Geometry;
 use prim_std::LabKem;
-use sphinx_unwrap::Geometry;
 use std::alloc::Global;
-
-impl From<LineFault> for Status {
-    ghost from_gives = { λ fault status. status ≡ status_of fault };
-
-    fn from(fault: LineFault) -> Status {
-        match fault {
-            LineFault::BadLine { number } => Status::Line { line: number },
-            LineFault::ReadFault => Status::ReadFault,
-            LineFault::Memory => Status::Memory,
-        }
-    }
-}
 
 /// The next event, or None at the script's end.
 fn next_event<I: Source>(alloc: Global, reader: &mut LineReader<I>) -> Result<Option<Event>, Status>
@@ -84,8 +71,7 @@ fn do_event(
         },
         Event::Peel { worker } => match node.peel(alloc, worker) {
             Ok(line) => Ok(line),
-            Err(Stop::Later) => Err(Status::Later { line: number }),
-            Err(Stop::Memory) => Err(Status::Memory),
+            Err(Memory) => Err(Status::Memory),
         },
         Event::Claim { worker } => match node.claim(worker) {
             Ok(line) => Ok(line),
@@ -107,17 +93,6 @@ fn put_line<O: Sink>(alloc: Global, sink: &mut O, line: &ReportLine) -> Result<(
 {
     let line = spell(alloc, line)?;
     sink.put(alloc, line.as_bytes())
-}
-
-impl From<PutFault> for Status {
-    ghost from_gives = { λ fault status. status ≡ status_of_put fault };
-
-    fn from(fault: PutFault) -> Status {
-        match fault {
-            PutFault::WriteFault => Status::WriteFault,
-            PutFault::Memory => Status::Memory,
-        }
-    }
 }
 
 /// One event at the node, at the line of this number: its line of the report is written.

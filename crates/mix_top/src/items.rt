@@ -1,7 +1,8 @@
 // What a node is set up with, what arrives at it, and what it holds.
 use crate::times::{Moment, Times};
 use mix_base::Bytes;
-use sphinx_unwrap::{Geometry, Out};
+use packet_form::Geometry;
+use sphinx_unwrap::Out;
 
 /// A node's geometry, its epochs, and the seed of its keys.
 #[derive(Clone, Copy)]

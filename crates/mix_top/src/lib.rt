@@ -8,17 +8,12 @@ mod drive;
 mod epochs;
 mod items;
 mod keys;
-mod lines;
 mod node;
 mod report;
 mod script;
-mod statuses;
 #[cfg(test)]
 mod tests;
 mod times;
-mod words;
 
 pub use command::mix_command;
-pub use lines::{LineFault, LineReader};
 pub use script::{Event, NodeLine, is_skipped, read_event, read_node};
-pub use statuses::{Status, code, write_status};

@@ -1,6 +1,6 @@
 // A node: it numbers arrivals, unwraps them under the keys live at their receipt, claims each tag once, and hands
 // packets on when they are due. Each call is one event of a script.
-ghost use Rattle.std.specs.Prelude.{◌≡◌, ◌+◌, ◌-◌, ◌^◌, ◌<◌, ◌≤◌, ◌↔◌, [], ◌∷◌, length, take, IfOk, OnOk, IsErrOf, IsTrue, Some, None};
+ghost use Rattle.std.specs.Prelude.{◌≡◌, ◌+◌, ◌-◌, ◌^◌, ◌<◌, ◌≤◌, ◌↔◌, [], ◌∷◌, length, take, IfOk, OnOk, IsTrue, Some, None};
 ghost use Rattle.std.specs.Option.{option_to_list};
 ghost use Rattle.mix_top.specs.Node.{new_node};
 ghost use Rattle.mix_top.specs.Step.{received, peeled, ClaimsFor, Sends, IsFirstOf, Precedes, worker_at};
@@ -13,17 +13,9 @@ use crate::keys::open_live;
 use crate::report::ReportLine;
 use crate::times::Moment;
 use mix_base::{Bytes, Memory};
-use sphinx_unwrap::{Opened, Refused, UnwrapFault};
+use sphinx_unwrap::{Opened, UnwrapFault};
 use std::alloc::Global;
 use std::collections::VecDeque;
-
-/// Why a node doesn't go on.
-#[derive(Clone, Copy, Debug, PartialEq, Eq)]
-pub enum Stop {
-    /// The packet has commands of a form that isn't built yet.
-    Later,
-    Memory,
-}
 
 /// A node with four workers.
 #[derive(Drop)]
@@ -71,13 +63,12 @@ impl Node {
     }
 
     /// The worker unwraps the oldest arrival.
-    pub fn peel(&mut self, alloc: Global, worker: u8) -> Result<Option<ReportLine>, Stop>
+    pub fn peel(&mut self, alloc: Global, worker: u8) -> Result<Option<ReportLine>, Memory>
         requires worker { worker < 4 }
         requires laboratory { self.old.setup.geometry.ct ≡ 48 }
         ensures setup { self.new.setup ≡ self.old.setup }
-        ensures ok { IfOk result (λ line. peeled self.old.setup (seen self.old) worker ≡ Some (option_to_list line, seen self.new)) }
+        ensures ok { IfOk result (λ line. peeled self.old.setup (seen self.old) worker ≡ (option_to_list line, seen self.new)) }
         ensures next { self.new.next ≡ self.old.next }
-        ensures later { IsErrOf result Stop.Later → peeled self.old.setup (seen self.old) worker ≡ None }
     {
         let worker_index = worker as usize;
         if self.workers[worker_index].is_some() {
@@ -91,12 +82,11 @@ impl Node {
                 self.workers[worker_index] = Some(item_of(arrival, epoch, opened));
                 Ok(None)
             }
-            Err(UnwrapFault::Refused(Refused::Later)) => Err(Stop::Later),
             Err(UnwrapFault::Refused(why)) => Ok(Some(ReportLine::Refuse {
                 number: arrival.number,
                 why,
             })),
-            Err(UnwrapFault::Memory) => Err(Stop::Memory),
+            Err(UnwrapFault::Memory) => Err(Memory),
         }
     }
 

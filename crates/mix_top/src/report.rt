@@ -60,7 +60,6 @@ fn why_word(why: Refused) -> &'static str
         Refused::Version => "version",
         Refused::Sealed => "sealed",
         Refused::Commands => "commands",
-        Refused::Later => "later",
     }
 }
 

@@ -1,10 +1,9 @@
 // The lines of a script of `drive`: what each says. A line is read exactly where it is in the grammar.
 ghost use Rattle.std.specs.Prelude.{◌≡◌, IfOk, option_map, option_copied, option_and_then, ◌≤◌, ◌<◌, ◌^◌, IfSome};
-ghost use Rattle.mix_top.specs.Words.{words_of};
+ghost use Rattle.lab_text.specs.Words.{words_of};
 ghost use Rattle.mix_top.specs.Script.{Reads, IsEventInRange, IsNodeInRange, event_of, node_of, node_in, says_nothing, suite_of, said_in, without_packet, recv_of, worker_of, moment_of, only_word, both_words, first_number, is_later};
 
-use crate::lines::LineFault;
-use crate::words::{next_word, read_bytes, read_number, read_seed};
+use lab_text::{LineFault, next_word, read_bytes, read_number, read_seed};
 use mix_base::{Bytes, Memory};
 use std::alloc::Global;
 

@@ -1,30 +1,13 @@
 -- Reading a payload and spelling one undo each other.
-use Rattle.std.proofs.Common.{◌≡◌, ℕ, zero, suc, ◌+◌, ◌-◌, ◌≤◌, List, [], ◌∷◌, ◌++◌, length, take, drop, get_or, replicate, Bool, true, false, cond, ◌&&◌, eqb, Option, Some, None, IsSomeAnd, refl, sym, ap, ◌∙◌, subst, arith, length-drop, append_assoc, eqb-true}
+use Rattle.std.proofs.Common.{◌≡◌, ℕ, ◌+◌, ◌-◌, ◌≤◌, List, ◌∷◌, ◌++◌, length, take, drop, get_or, replicate, Bool, true, false, cond, ◌&&◌, eqb, Option, Some, None, refl, sym, ap, ◌∙◌, subst, arith, length-drop, append_assoc, eqb-true}
 use Rattle.std.proofs.Math.Seq.{drop-cons}
 use Rattle.std.proofs.lemmas.List.{length-replicate, length-take-le, take-append-drop, drop-drop, take_at, drop_at}
-use Rattle.mix_base.specs.declared.suites.HopKeys.{HopKeys}
-use Rattle.sphinx_unwrap.specs.Geometry.{Sizes, block}
-use Rattle.sphinx_unwrap.specs.Layer.{all_zero}
-use Rattle.sphinx_unwrap.specs.Outcome.{received, Says}
+use Rattle.packet_form.specs.Geometry.{Sizes, block}
+use Rattle.packet_form.specs.CommandLaws.{all_zero-replicate, both, zeros_from_all_zero}
+use Rattle.packet_form.specs.Commands.{all_zero}
+use Rattle.packet_form.specs.declared.commands.Exit.TheVariants as exits
+use Rattle.sphinx_unwrap.specs.Outcome.{received, Leaves}
 use Rattle.sphinx_unwrap.specs.Payload.{spelled_block, spell, HasRoom, block_in, read_block, body_of}
-use Rattle.sphinx_unwrap.specs.declared.outcome.Out.{Out}
-
--- zeros are all zero
-pub all_zero-replicate : (n : ℕ) → all_zero (replicate n 0) ≡ true
-all_zero-replicate zero = refl
-all_zero-replicate (suc n) = all_zero-replicate n
-
--- two tests that both hold
-both : (a b : Bool) → (a && b) ≡ true → (a ≡ true) × (b ≡ true)
-both true b e = (refl, e)
-both false b e = cc
-
--- bytes that are all zero are zeros
-pub zeros_from_all_zero : (xs : List ℕ) → all_zero xs ≡ true → xs ≡ replicate (length xs) 0
-zeros_from_all_zero [] h = refl
-zeros_from_all_zero (x ∷ xs) h =
-    let tests = both (eqb x 0) (all_zero xs) h in
-    ap (λ y. y ∷ xs) (eqb-true x 0 tests.0) ∙ ap (λ ys. 0 ∷ ys) (zeros_from_all_zero xs tests.1)
 
 -- the room behind 34 bytes
 room_at : (n : ℕ) (xs ys : List ℕ) → length xs ≡ n → take (34 + n - 34) (xs ++ ys) ≡ xs
@@ -88,14 +71,11 @@ spell-read_block sizes payload reply_block long e =
     ∙ ap (λ middle. replicate 32 0 ++ middle ++ body_of sizes payload) spelled
 
 -- what a recipient gets is what the payload spells
-pub says : (sizes : Sizes) (payload recipient : List ℕ) (found : Option (Option (List ℕ))) → 34 + block sizes ≤ length payload → read_block sizes payload ≡ found → Says sizes payload (received recipient (body_of sizes payload) found)
-says sizes payload recipient (Some reply_block) long e = spell-read_block sizes payload reply_block long e
-says sizes payload recipient None long e = λ reply_block body room same.
-    let read : read_block sizes payload ≡ Some reply_block = ap (λ p. read_block sizes p) same ∙ read_block-spell sizes reply_block body room in
-    cc
-
--- the same of a payload that keys decrypt
-pub says_under : (sizes : Sizes) (keys : Option HopKeys) (decrypted : HopKeys → List ℕ) (payload recipient : List ℕ) (sent : Out) → 34 + block sizes ≤ length payload → IsSomeAnd keys (λ k. payload ≡ decrypted k) → sent ≡ received recipient (body_of sizes payload) (read_block sizes payload) → IsSomeAnd keys (λ k. Says sizes (decrypted k) sent)
-says_under sizes (Some k) decrypted payload recipient sent long same is =
-    subst (λ (p : List ℕ). Says sizes p sent) same (subst (λ (o : Out). Says sizes payload o) (sym is) (says sizes payload recipient (read_block sizes payload) long refl))
-says_under sizes None decrypted payload recipient sent long same is = same
+pub received_spells : (sizes : Sizes) (slots payload id : List ℕ) (found : Option (Option (List ℕ))) → 34 + block sizes ≤ length payload → read_block sizes payload ≡ found → Leaves sizes slots payload (exits.Recipient id) (received id (body_of sizes payload) found)
+received_spells sizes slots payload id (Some reply_block) long e = (refl, spell-read_block sizes payload reply_block long e)
+received_spells sizes slots payload id None long e = (
+  refl,
+  λ reply_block body room same.
+      let read : read_block sizes payload ≡ Some reply_block = ap (λ p. read_block sizes p) same ∙ read_block-spell sizes reply_block body room in
+      cc,
+)

@@ -1,17 +1,18 @@
 -- One layer of a packet, taken off with a hop's secret key: a function on whole lists. A packet is a version of
 -- two bytes, a ciphertext, the routing information, a MAC and a payload.
-use Rattle.std.specs.Prelude.{ℕ, ◌+◌, ◌-◌, ◌==◌, List, [], ◌∷◌, ◌++◌, length, drop, replicate, slice_index, slice_range, Bool, ◌&&◌, ◌||◌, Option, Some, None, Result, Ok, Err, if◌then◌else◌}
-use Rattle.std.specs.List.{list_all}
+use Rattle.std.specs.Prelude.{ℕ, ◌+◌, ◌-◌, ◌==◌, List, [], ◌∷◌, ◌++◌, length, drop, replicate, slice_range, Bool, Option, Some, None, Result, Ok, Err, if◌then◌else◌}
 use Rattle.std.specs.Option.{option_and_then, option_map, ok_or}
 use Rattle.std.specs.Str.{bytes_eq}
 use Rattle.sha2.specs.Sha256.{sha256}
 use Rattle.mix_base.specs.ByteLists.{xor_stream}
 use Rattle.mix_base.specs.Suites.{SuiteMeaning}
 use Rattle.mix_base.specs.declared.suites.HopKeys.{HopKeys}
-use Rattle.sphinx_unwrap.specs.Geometry.{Sizes, slot, routing, header}
-use Rattle.sphinx_unwrap.specs.Geometry as lengths
+use Rattle.packet_form.specs.Commands.{read}
+use Rattle.packet_form.specs.Geometry.{Sizes, slot, routing, header}
+use Rattle.packet_form.specs.Geometry as lengths
+use Rattle.packet_form.specs.declared.commands.Cmds.{Cmds}
 use Rattle.sphinx_unwrap.specs.declared.fault.Refused.{Refused}
-use Rattle.sphinx_unwrap.specs.declared.fault.Refused.TheVariants.{Length, Version, Sealed, Commands, Later}
+use Rattle.sphinx_unwrap.specs.declared.fault.Refused.TheVariants.{Length, Version, Sealed, Commands}
 
 -- one step after the other: the first refusal decides
 infixl 10 ◌>>=◌
@@ -72,41 +73,27 @@ unhidden suite sizes keys packet = xor_stream (suite.stream keys.stream) 0 (rout
 abbrev pub payload_under : SuiteMeaning → Sizes → List ℕ → HopKeys → List ℕ
 payload_under suite sizes packet keys = suite.decrypt keys.wide (payload_of sizes packet)
 
--- all of the bytes are zero
-abbrev pub all_zero : List ℕ → Bool
-all_zero bytes = list_all (λ byte. byte == 0) bytes
-
--- commands that aren't read yet: a delay, a next hop, or a recipient with a reply
-abbrev pub is_later : ℕ → ℕ → Bool
-is_later first behind_id = first == 0x80 || (first == 1 || (first == 2 && behind_id == 3))
-
--- the id in commands that are a recipient alone: 2, 32 bytes of id, and zeros
-unfoldable pub recipient_of : List ℕ → Result (List ℕ) Refused
-recipient_of commands =
-    if is_later (slice_index commands 0) (slice_index commands 33) then Err Later
-    else (if slice_index commands 0 == 2 && all_zero (slice_range commands 33 72) then Ok (slice_range commands 1 33) else Err Commands)
-
 -- what stands in a packet under one layer
 pub record Layer : Type 0 where
   pub tag : List ℕ
-  -- the commands of this hop: a recipient's id
-  pub recipient : List ℕ
+  -- how long this hop holds the packet, and where it goes from here
+  pub commands : Cmds
   -- what goes on to a next hop
   pub next_ciphertext : List ℕ
   pub next_routing : List ℕ
   pub payload : List ℕ
 
--- the commands of a slot, behind the next ciphertext
+-- the command bytes of a slot, behind the next ciphertext
 abbrev pub commands_of : Sizes → List ℕ → List ℕ
 commands_of sizes slots = slice_range slots sizes.ct (slot sizes)
 
 -- the layer under keys that opened the packet
 unfoldable pub layer_of : SuiteMeaning → Sizes → List ℕ → HopKeys → Result Layer Refused
 layer_of suite sizes packet keys = do
-  recipient ← recipient_of (commands_of sizes (unhidden suite sizes keys packet))
+  commands ← ok_or (read (commands_of sizes (unhidden suite sizes keys packet))) Commands
   Ok (record {
     tag = tag_of sizes packet;
-    recipient = recipient;
+    commands = commands;
     next_ciphertext = slice_range (unhidden suite sizes keys packet) 0 sizes.ct;
     next_routing = drop (slot sizes) (unhidden suite sizes keys packet);
     payload = payload_under suite sizes packet keys;

@@ -1,4 +1,3 @@
-pub mod Geometry
 pub mod Layer
 pub mod Outcome
 pub mod Payload

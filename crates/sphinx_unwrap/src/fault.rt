@@ -15,8 +15,6 @@ pub enum Refused {
     Sealed,
     /// The commands are outside the grammar.
     Commands,
-    /// The commands are of a form that isn't read yet: a delay, a next hop, or a recipient with a reply.
-    Later,
 }
 
 /// Why `unwrap` gives no answer.

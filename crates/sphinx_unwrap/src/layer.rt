@@ -1,14 +1,16 @@
 // Taking off one layer, step by step: shape, keys, routing information, commands, payload. Each step is the
 // definition of its name in specs/Layer, so the refusals come in the definition's order.
-ghost use Rattle.std.specs.Prelude.{◌≡◌, ◌+◌, length, drop, slice_range, OnOk, IfOk, IsSomeAnd};
+ghost use Rattle.std.specs.Prelude.{◌≡◌, ◌+◌, length, Some, OnOk, IfOk, IsSomeAnd};
 ghost use Rattle.std.specs.Option.{ok_or};
-ghost use Rattle.sphinx_unwrap.specs.Geometry as lengths;
-ghost use Rattle.sphinx_unwrap.specs.Layer.{ciphertext_of, all_zero, hop_keys_of, is_authentic, opened, payload_under, recipient_of, shape, tag_of, unhidden, unsealed};
+ghost use Rattle.packet_form.specs.Commands.{read};
+ghost use Rattle.packet_form.specs.Geometry as lengths;
+ghost use Rattle.sphinx_unwrap.specs.Layer.{ciphertext_of, commands_of, hop_keys_of, is_authentic, opened, payload_under, shape, tag_of, unhidden, unsealed};
 ghost use Rattle.sphinx_unwrap.specs.Outcome.{Gives, GivesAs, layer_seen};
-ghost use Rattle.sphinx_unwrap.specs.declared.fault.Refused.TheVariants.{Sealed};
+ghost use Rattle.sphinx_unwrap.specs.declared.fault.Refused.TheVariants.{Commands, Sealed};
 
-use crate::{Geometry, Refused, UnwrapFault};
+use crate::{Refused, UnwrapFault};
 use mix_base::{HopKeys, Kdf, Kem, Mac, Stream, Suite, Wide};
+use packet_form::{Cmds, Geometry, read_cmds};
 use sha2::{Digest, Sha256};
 use std::alloc::{AllocError, Global};
 
@@ -17,19 +19,12 @@ use std::alloc::{AllocError, Global};
 pub struct OpenLayer {
     /// The replay tag.
     pub tag: [u8; 32],
-    /// The commands: a recipient's id.
-    pub recipient: [u8; 32],
+    /// How long this hop holds the packet, and where it goes from here.
+    pub commands: Cmds,
     /// This hop's slot, and behind it the next hop's routing information.
     pub slots: Vec<u8>,
     /// The payload after one decryption.
     pub payload: Vec<u8>,
-}
-
-/// Whether all bytes are zero.
-pub fn is_zero(bytes: &[u8]) -> bool
-    ensures { result ≡ all_zero bytes.now }
-{
-    bytes.iter().all(|byte| *byte == 0)
 }
 
 /// The first two refusals: another length than the geometry's, and another version than 0.
@@ -129,28 +124,14 @@ fn unhide<S: Suite>(
     Ok(slots)
 }
 
-/// The id behind the first byte of commands.
-fn id_in(commands: &[u8]) -> [u8; 32]
-    requires { length commands.now ≡ 72 }
-    ensures { result ≡ slice_range commands.now 1 33 }
+/// The commands that these 72 bytes spell.
+fn read_commands(bytes: &[u8]) -> Result<Cmds, Refused>
+    requires { length bytes.now ≡ 72 }
+    ensures { result ≡ ok_or (read bytes.now) Commands }
 {
-    let mut id = [0; 32];
-    id.copy_from_slice(&commands[1..33]);
-    id
-}
-
-/// The recipient that commands name, 72 bytes.
-#[tactic(auto, unfolding(crate::specs::Layer::recipient_of))]
-fn read_recipient(commands: &[u8]) -> Result<[u8; 32], Refused>
-    requires { length commands.now ≡ 72 }
-    ensures { result ≡ recipient_of commands.now }
-{
-    match commands[0] {
-        0x80 | 1 => Err(Refused::Later),
-        2 if commands[33] == 3 => Err(Refused::Later),
-        2 if is_zero(&commands[33..72]) => Ok(id_in(commands)),
-        _ => Err(Refused::Commands),
-    }
+    let mut commands = [0; 72];
+    commands.copy_from_slice(bytes);
+    read_cmds(&commands).ok_or(Refused::Commands)
 }
 
 /// The payload after one decryption.
@@ -181,18 +162,21 @@ pub fn open_layer<S: Suite>(
     requires secret_length { length sk.now ≡ S.K.SK }
     ensures exact { GivesAs (layer_seen geo.now) result (opened S.meaning geo.now sk.now packet.now) }
     ensures tag { IfOk result (λ layer. layer.tag ≡ tag_of geo.now packet.now) }
+    ensures slots { IfOk result (λ layer. IsSomeAnd (unsealed S.meaning geo.now sk.now packet.now) (λ keys. layer.slots.items ≡ unhidden S.meaning geo.now keys packet.now)) }
+    ensures commands { IfOk result (λ layer. read (commands_of geo.now layer.slots.items) ≡ Some layer.commands) }
     ensures payload { IfOk result (λ layer. IsSomeAnd (unsealed S.meaning geo.now sk.now packet.now) (λ keys. layer.payload.items ≡ payload_under S.meaning geo.now packet.now keys)) }
-    ensures length { IfOk result (λ layer. length layer.payload.items ≡ lengths.payload geo.now) }
+    ensures slots_length { IfOk result (λ layer. length layer.slots.items ≡ lengths.routing geo.now + lengths.slot geo.now) }
+    ensures payload_length { IfOk result (λ layer. length layer.payload.items ≡ lengths.payload geo.now) }
 {
     check_shape(geo, packet)?;
     let keys = unseal::<S>(alloc, geo, sk, packet)?;
     let slots = unhide::<S>(alloc, geo, &keys, packet)?;
-    let recipient = read_recipient(&slots[geo.ct()..geo.slot()])?;
+    let commands = read_commands(&slots[geo.ct()..geo.slot()])?;
     let payload = decrypt_payload::<S>(alloc, geo, &keys, packet)?;
     let tag = Sha256::digest(ciphertext(geo, packet));
     Ok(OpenLayer {
         tag,
-        recipient,
+        commands,
         slots,
         payload,
     })

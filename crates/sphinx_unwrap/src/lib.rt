@@ -5,12 +5,10 @@
 mod fault;
 mod layer;
 mod outcome;
-mod packet_sizes;
 #[cfg(test)]
 mod tests;
 mod unwrapping;
 
 pub use fault::{Refused, UnwrapFault};
 pub use outcome::{Opened, Out};
-pub use packet_sizes::{Geometry, GeometryFault};
 pub use unwrapping::unwrap;

@@ -1,7 +1,7 @@
 // What goes out of an opened layer, as plain data.
 use mix_base::Bytes;
 
-/// What goes out of a layer. Until the other commands are read, it is `Deliver` or `Damaged`.
+/// What goes out of a layer. Contracts see it as plain data.
 #[derive(Drop)]
 pub enum Out {
     /// To the next hop: its id, and its packet.

@@ -2,8 +2,9 @@
 // the byte 9, a secret and a MAC are the secret key, and the stream and the wide block cipher change nothing.
 ghost use Rattle.std.specs.Prelude.{◌==◌, true, Some, None, refl, replicate, slice_index, if◌then◌else◌};
 
-use crate::{Geometry, GeometryFault, Opened, Out, Refused, UnwrapFault, unwrap};
+use crate::{Opened, Out, Refused, UnwrapFault, unwrap};
 use mix_base::{EncapFault, HopKeys, Kdf, Kem, Mac, Memory, PairFault, Stream, Suite, Wide, Words};
+use packet_form::Geometry;
 use std::alloc::{AllocError, Global};
 use std::test::Fail;
 
@@ -131,143 +132,200 @@ const TAG: [u8; 32] = [
     0x24, 0x75, 0x56, 0x2d, 0x48, 0x57, 0x8d, 0xca, 0x8b, 0x84, 0xba, 0xc6, 0x65, 0x1c, 0x3c, 0xb9,
 ];
 
+const ID: [u8; 32] = [0x22; 32];
+
+const MAC: [u8; 32] = [0x66; 32];
+
+const SURB: [u8; 16] = [0x44; 16];
+
 /// What a row expects.
 #[derive(Clone, Copy)]
 enum Expected {
     Body,
     BodyAndBlock,
     Damaged,
+    Forward,
+    Reply,
     Refused(Refused),
 }
 
-/// A packet of 426 bytes in the geometry of one hop, a ciphertext of 1 byte and a body of 16 bytes: the MAC at
-/// 76, the payload at 108, its block at 142 and its body at 410.
-fn packet(alloc: Global) -> Result<Vec<u8>, AllocError> {
-    let mut bytes = Vec::with_capacity(alloc, 426)?;
-    bytes.extend_from_slice(&[0, 0, 9, 0, 2])?;
-    bytes.extend_from_slice(&[0x22; 32])?;
-    bytes.extend_from_slice(&[0; 39])?;
+/// Puts the payload that carries a body of 16 bytes and no block.
+fn put_payload(packet: &mut Vec<u8>) -> Result<(), AllocError> {
+    packet.extend_from_slice(&[0; 375])?;
+    packet.extend_from_slice(&[0x41; 16])
+}
+
+/// A packet of 572 bytes in the geometry of two hops, a ciphertext of 1 byte and a body of 16 bytes. The slot
+/// stands at 3 with its commands at 4, what is behind it at 76, the MAC at 149, the payload at 181, its block at 215
+/// and its body at 556.
+fn packet(alloc: Global, commands: &[&[u8]]) -> Result<Vec<u8>, AllocError> {
+    let mut bytes = Vec::with_capacity(alloc, 572)?;
+    bytes.extend_from_slice(&[0, 0, 9, 8])?;
+    for part in commands {
+        bytes.extend_from_slice(*part)?;
+    }
+    bytes.resize(76, 0)?;
+    bytes.extend_from_slice(&[0x55; 73])?;
     bytes.extend_from_slice(&[7; 32])?;
-    bytes.extend_from_slice(&[0; 302])?;
-    bytes.extend_from_slice(&[0x41; 16])?;
+    put_payload(&mut bytes)?;
     Ok(bytes)
 }
 
-/// Whether the answer is the expected one.
-fn is_expected(answer: &Result<Opened, UnwrapFault>, expected: Expected) -> bool {
-    match (answer, expected) {
-        (Ok(opened), Expected::Damaged) => match &opened.out {
-            Out::Damaged { recipient } => *recipient == [0x22; 32],
-            _ => false,
-        },
-        (Ok(opened), Expected::Body | Expected::BodyAndBlock) => match &opened.out {
+/// The packet that goes from there to the next hop.
+fn next_packet(alloc: Global) -> Result<Vec<u8>, AllocError> {
+    let mut bytes = Vec::with_capacity(alloc, 572)?;
+    bytes.extend_from_slice(&[0, 0, 8])?;
+    bytes.extend_from_slice(&[0x55; 73])?;
+    bytes.extend_from_slice(&[0; 73])?;
+    bytes.extend_from_slice(&MAC)?;
+    put_payload(&mut bytes)?;
+    Ok(bytes)
+}
+
+/// Whether what went out is the expected one.
+fn is_expected_out(alloc: Global, out: &Out, expected: Expected) -> Result<bool, AllocError> {
+    Ok(match (out, expected) {
+        (Out::Damaged { recipient }, Expected::Damaged) => *recipient == ID,
+        (
             Out::Deliver {
                 recipient,
                 body,
                 block,
-            } => {
-                opened.tag == TAG
-                    && *recipient == [0x22; 32]
-                    && body.as_slice() == [0x41; 16].as_slice()
-                    && block.is_some() == matches!(expected, Expected::BodyAndBlock)
-            }
-            _ => false,
-        },
-        (Err(UnwrapFault::Refused(why)), Expected::Refused(expected)) => *why == expected,
+            },
+            Expected::Body | Expected::BodyAndBlock,
+        ) => {
+            *recipient == ID
+                && body.as_slice() == [0x41; 16].as_slice()
+                && block.is_some() == matches!(expected, Expected::BodyAndBlock)
+        }
+        (Out::Forward { next, packet }, Expected::Forward) => {
+            *next == ID && packet.as_slice() == next_packet(alloc)?.as_slice()
+        }
+        (
+            Out::Reply {
+                recipient,
+                surb,
+                payload,
+            },
+            Expected::Reply,
+        ) => {
+            let mut whole = Vec::new(alloc);
+            put_payload(&mut whole)?;
+            *recipient == ID && *surb == SURB && payload.as_slice() == whole.as_slice()
+        }
         _ => false,
+    })
+}
+
+/// Whether the answer is the expected one.
+fn is_expected(
+    alloc: Global,
+    answer: &Result<Opened, UnwrapFault>,
+    delay: Option<u32>,
+    expected: Expected,
+) -> Result<bool, AllocError> {
+    match (answer, expected) {
+        (Ok(opened), expected) => Ok(
+            opened.tag == TAG
+                && opened.delay == delay
+                && is_expected_out(alloc, &opened.out, expected)?,
+        ),
+        (Err(UnwrapFault::Refused(why)), Expected::Refused(expected)) => Ok(*why == expected),
+        _ => Ok(false),
     }
+}
+
+#[test]
+fn each_exit_has_its_outcome(rt: HostRuntime) -> Result<(), Fail> {
+    let rows: [(Option<u32>, Expected, [&[u8]; 5]); 6] = [
+        (None, Expected::Forward, [&[], &[1], &ID, &MAC, &[]]),
+        (
+            Some(500),
+            Expected::Forward,
+            [&[0x80, 0, 0, 1, 0xf4], &[1], &ID, &MAC, &[]],
+        ),
+        (None, Expected::Body, [&[], &[2], &ID, &[], &[]]),
+        (
+            Some(0),
+            Expected::Body,
+            [&[0x80, 0, 0, 0, 0], &[2], &ID, &[], &[]],
+        ),
+        (None, Expected::Reply, [&[], &[2], &ID, &[3], &SURB]),
+        (
+            Some(10_800_000),
+            Expected::Reply,
+            [&[0x80, 0, 0xa4, 0xcb, 0x80], &[2], &ID, &[3], &SURB],
+        ),
+    ];
+    let Ok(geo) = Geometry::new(1, 2, 16) else {
+        return Err(Fail::from("no geometry"));
+    };
+    for (delay, expected, commands) in rows {
+        let bytes = packet(rt.alloc(), &commands)?;
+        let answer = unwrap::<Plain>(rt.alloc(), &geo, &[7; 32], &bytes);
+        assert!(rt; is_expected(rt.alloc(), &answer, delay, expected)?);
+    }
+    Ok(())
 }
 
 #[test]
 fn one_changed_byte_decides_the_outcome(rt: HostRuntime) -> Result<(), Fail> {
     let rows = [
-        (410, 0x41, Expected::Body),
-        (140, 1, Expected::BodyAndBlock),
+        (556, 0x41, Expected::Body),
+        (213, 1, Expected::BodyAndBlock),
         (0, 1, Expected::Refused(Refused::Version)),
         (1, 1, Expected::Refused(Refused::Version)),
         (2, 8, Expected::Refused(Refused::Sealed)),
-        (107, 8, Expected::Refused(Refused::Sealed)),
-        (4, 0x80, Expected::Refused(Refused::Later)),
-        (4, 1, Expected::Refused(Refused::Later)),
-        (37, 3, Expected::Refused(Refused::Later)),
+        (180, 8, Expected::Refused(Refused::Sealed)),
+        // a delay that is too long, and bytes behind the last command
+        (4, 0x80, Expected::Refused(Refused::Commands)),
         (4, 3, Expected::Refused(Refused::Commands)),
         (37, 4, Expected::Refused(Refused::Commands)),
         (75, 1, Expected::Refused(Refused::Commands)),
-        (139, 1, Expected::Damaged),
-        (140, 2, Expected::Damaged),
-        (141, 1, Expected::Damaged),
-        (142, 1, Expected::Damaged),
+        // what stands behind the layer isn't looked at
+        (3, 0xff, Expected::Body),
+        (76, 0xff, Expected::Body),
+        (212, 1, Expected::Damaged),
+        (213, 2, Expected::Damaged),
+        (214, 1, Expected::Damaged),
+        (215, 1, Expected::Damaged),
+        (555, 1, Expected::Damaged),
     ];
-    let Ok(geo) = Geometry::new(1, 1, 16) else {
+    let Ok(geo) = Geometry::new(1, 2, 16) else {
         return Err(Fail::from("no geometry"));
     };
     for (place, byte, expected) in rows {
-        let mut bytes = packet(rt.alloc())?;
+        let mut bytes = packet(rt.alloc(), &[&[2], &ID])?;
         if place < bytes.len() {
             bytes[place] = byte;
         }
         let answer = unwrap::<Plain>(rt.alloc(), &geo, &[7; 32], &bytes);
-        assert!(rt; is_expected(&answer, expected), "{place} {byte}");
+        assert!(rt;
+            is_expected(rt.alloc(), &answer, None, expected)?,
+            "{place} {byte}"
+        );
     }
     Ok(())
 }
 
 #[test]
 fn length_is_judged_first(rt: HostRuntime) -> Result<(), Fail> {
-    let Ok(geo) = Geometry::new(1, 1, 16) else {
+    let Ok(geo) = Geometry::new(1, 2, 16) else {
         return Err(Fail::from("no geometry"));
     };
-    let ones = vec![in rt.alloc(); 1; 427]?;
+    let ones = vec![in rt.alloc(); 1; 573]?;
     let rows = [
         (0, Refused::Length),
-        (425, Refused::Length),
-        (426, Refused::Version),
-        (427, Refused::Length),
+        (571, Refused::Length),
+        (572, Refused::Version),
+        (573, Refused::Length),
     ];
     for (length, why) in rows {
         let packet = ones.get(..length).ok_or("too long")?;
         let answer = unwrap::<Plain>(rt.alloc(), &geo, &[7; 32], packet);
-        assert!(rt; is_expected(&answer, Expected::Refused(why)), "{length}");
-    }
-    Ok(())
-}
-
-#[test]
-fn lengths_of_a_geometry(rt: HostRuntime) -> Result<(), Fail> {
-    assert_eq!(rt; Geometry::new(48, 6, 0).err(), Some(GeometryFault::Hops));
-    assert_eq!(rt; Geometry::new(48, 0, 64).err(), Some(GeometryFault::Hops));
-    assert_eq!(rt; Geometry::new(48, 5, 0).err(), Some(GeometryFault::Body));
-    assert_eq!(rt; Geometry::new(48, 5, 4097).err(), Some(GeometryFault::Body));
-    // ciphertext, hops, body; slot, routing, header, block, payload, packet
-    let rows = [
-        [48, 5, 64, 120, 600, 682, 842, 940, 1622],
-        [1047, 5, 2000, 1119, 5595, 6676, 6836, 8870, 15546],
-    ];
-    for [
-        ct,
-        hops,
-        body,
-        slot,
-        routing,
-        header,
-        block,
-        payload,
-        packet,
-    ] in rows {
-        if ct > 4096 {
-            continue;
-        }
-        let Ok(geo) = Geometry::new(ct, hops, body) else {
-            return Err(Fail::from("no geometry"));
-        };
-        assert_eq!(rt; [geo.ct(), geo.hops(), geo.body()], [ct, hops, body]);
-        assert_eq!(rt;
-            [geo.slot(), geo.routing(), geo.header()],
-            [slot, routing, header]
-        );
-        assert_eq!(rt;
-            [geo.block(), geo.payload(), geo.packet()],
-            [block, payload, packet]
+        assert!(rt;
+            is_expected(rt.alloc(), &answer, None, Expected::Refused(why))?,
+            "{length}"
         );
     }
     Ok(())

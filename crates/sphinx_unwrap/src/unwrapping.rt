@@ -1,15 +1,24 @@
 // Unwrapping: a layer is taken off, and what goes out of it is made.
-ghost use Rattle.std.specs.Prelude.{◌≡◌, length, IfOk, IsSomeAnd, option_map};
+ghost use Rattle.std.specs.Prelude.{◌≡◌, ◌+◌, [], ◌∷◌, ◌++◌, length, drop, slice_range, IfOk, OnOk, IsSomeAnd, option_map};
 ghost use Rattle.std.specs.Option.{option_copied};
-ghost use Rattle.sphinx_unwrap.specs.Geometry as lengths;
-ghost use Rattle.sphinx_unwrap.specs.Layer.{payload_under, tag_of, unsealed};
-ghost use Rattle.sphinx_unwrap.specs.Outcome.{Gives, Says, received, unwrapped};
+ghost use Rattle.packet_form.specs.Commands.{HasLengths, all_zero};
+ghost use Rattle.packet_form.specs.Geometry as lengths;
+ghost use Rattle.sphinx_unwrap.specs.Layer.{payload_under, tag_of, unhidden, unsealed};
+ghost use Rattle.sphinx_unwrap.specs.Outcome.{Gives, Says, layer_seen, out, received, unwrapped};
 ghost use Rattle.sphinx_unwrap.specs.Payload.{body_of, read_block};
 
-use crate::layer::{is_zero, open_layer};
-use crate::{Geometry, Opened, Out, UnwrapFault};
+use crate::layer::{OpenLayer, open_layer};
+use crate::{Opened, Out, UnwrapFault};
 use mix_base::{Bytes, Suite};
+use packet_form::{Exit, Geometry};
 use std::alloc::{AllocError, Global};
+
+/// Whether all bytes are zero.
+fn is_zero(bytes: &[u8]) -> bool
+    ensures { result ≡ all_zero bytes.now }
+{
+    bytes.iter().all(|byte| *byte == 0)
+}
 
 /// The block, or none, of a payload that is right before its body; `None` where it isn't.
 #[tactic(auto, unfolding(crate::specs::Payload::read_block))]
@@ -60,6 +69,47 @@ fn receive(
     })
 }
 
+/// The packet for the next hop: its ciphertext and routing information stand in the slots.
+fn forward(
+    alloc: Global,
+    geo: &Geometry,
+    slots: &[u8],
+    mac: &[u8; 32],
+    payload: &[u8],
+) -> Result<Bytes, AllocError>
+    requires { length slots.now ≡ lengths.routing geo.now + lengths.slot geo.now }
+    ensures { IfOk result (λ packet. packet ≡ 0 ∷ 0 ∷ slice_range slots.now 0 geo.now.ct ++ drop (lengths.slot geo.now) slots.now ++ mac.now ++ payload.now) }
+{
+    let mut packet = Vec::with_capacity(alloc, geo.packet())?;
+    packet.extend_from_slice(&[0, 0])?;
+    packet.extend_from_slice(&slots[..geo.ct()])?;
+    packet.extend_from_slice(&slots[geo.slot()..])?;
+    packet.extend_from_slice(mac)?;
+    packet.extend_from_slice(payload)?;
+    Ok(Bytes::of(packet))
+}
+
+/// What goes out of a layer.
+fn leave(alloc: Global, geo: &Geometry, layer: OpenLayer) -> Result<Out, AllocError>
+    requires slots { length layer.slots.items ≡ lengths.routing geo.now + lengths.slot geo.now }
+    requires payload { length layer.payload.items ≡ lengths.payload geo.now }
+    ensures value { IfOk result (λ left. left ≡ out geo.now (layer_seen geo.now layer)) }
+    ensures lengths { OnOk result (HasLengths layer.commands.exit) }
+{
+    match layer.commands.exit {
+        Exit::Hop { id, mac } => {
+            let packet = forward(alloc, geo, &layer.slots, &mac, &layer.payload)?;
+            Ok(Out::Forward { next: id, packet })
+        }
+        Exit::Recipient { id } => receive(alloc, geo, id, &layer.payload),
+        Exit::Reply { id, surb } => Ok(Out::Reply {
+            recipient: id,
+            surb,
+            payload: owned(alloc, &layer.payload)?,
+        }),
+    }
+}
+
 /// Unwraps a packet with a hop's secret key. Asks a geometry of the suite's ciphertext, and a secret key of the
 /// suite's length. A refusal is the first cause of the order of `Refused`.
 #[tactic(auto, unfolding(crate::specs::Outcome::unwrapped))]
@@ -73,14 +123,13 @@ pub fn unwrap<S: Suite>(
     requires secret_length { length sk.now ≡ S.K.SK }
     ensures exact { Gives result (unwrapped S.meaning geo.now sk.now packet.now) }
     ensures tag { IfOk result (λ opened. opened.tag ≡ tag_of geo.now packet.now) }
-    // The secret key opens the packet, and what goes to a recipient is what the payload under the keys spells.
-    ensures says { IfOk result (λ opened. IsSomeAnd (unsealed S.meaning geo.now sk.now packet.now) (λ keys. Says geo.now (payload_under S.meaning geo.now packet.now keys) opened.out)) }
+    // The secret key opens the packet; delay and exit are those of the commands in its slot; and what goes out is, by
+    // the exit, a packet of the parts behind the layer, what the payload spells, or the whole payload.
+    ensures says { IfOk result (λ opened. IsSomeAnd (unsealed S.meaning geo.now sk.now packet.now) (λ keys. Says geo.now (unhidden S.meaning geo.now keys packet.now) (payload_under S.meaning geo.now packet.now keys) opened)) }
 {
     let layer = open_layer::<S>(alloc, geo, sk, packet)?;
-    let out = receive(alloc, geo, layer.recipient, &layer.payload)?;
-    Ok(Opened {
-        tag: layer.tag,
-        delay: None,
-        out,
-    })
+    let tag = layer.tag;
+    let delay = layer.commands.delay;
+    let out = leave(alloc, geo, layer)?;
+    Ok(Opened { tag, delay, out })
 }

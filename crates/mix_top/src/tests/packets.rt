@@ -34,6 +34,24 @@ pub fn to_recipient() -> [u8; 72] {
     commands
 }
 
+/// The same behind a delay of this many milliseconds.
+pub fn to_recipient_after(delay: u32) -> [u8; 72] {
+    let mut commands = [0; 72];
+    commands[0] = 0x80;
+    commands[1..5].copy_from_slice(&delay.to_be_bytes());
+    commands[5] = 2;
+    commands[6..38].copy_from_slice(&[0x22; 32]);
+    commands
+}
+
+/// The commands of a last hop that asks for a reply: to the recipient, with the reply id 16 bytes 44.
+pub fn to_maker() -> [u8; 72] {
+    let mut commands = to_recipient();
+    commands[33] = 3;
+    commands[34..50].copy_from_slice(&[0x44; 16]);
+    commands
+}
+
 /// The commands of a hop before another: its id is 32 bytes 22, and the code of its header 32 bytes 33.
 pub fn to_next_hop() -> [u8; 72] {
     let mut commands = [0; 72];
@@ -43,20 +61,32 @@ pub fn to_next_hop() -> [u8; 72] {
     commands
 }
 
-/// The payload of a body of 64 bytes 41, under its wide key.
-fn payload(wide: &[u8; 128]) -> [u8; 940] {
+/// Commands with a byte behind the last.
+pub fn to_recipient_and_more() -> [u8; 72] {
+    let mut commands = to_recipient();
+    commands[71] = 1;
+    commands
+}
+
+/// The payload of a body of 64 bytes 41.
+pub fn payload() -> [u8; 940] {
     let mut payload = [0; 940];
     payload[876..].copy_from_slice(&[0x41; 64]);
-    Lioness::encrypt(wide, &mut payload);
     payload
 }
 
-/// The packet with this seed for that node in epoch 0, with these commands.
-pub fn packet(alloc: Global, seed: &[u8; 32], commands: &[u8; 72]) -> Result<Vec<u8>, AllocError> {
+/// The secret of a packet with this seed, and its ciphertext.
+fn shared(alloc: Global, seed: &[u8; 32]) -> ([u8; 32], [u8; 48]) {
     let mut ciphertext = [0; 48];
     let mut secret = [0; 32];
     let public = public_key(alloc);
     let _ = LabKem::encap(alloc, &public, &coins(seed), &mut ciphertext, &mut secret);
+    (secret, ciphertext)
+}
+
+/// The packet with this seed for that node in epoch 0, with these commands.
+pub fn packet(alloc: Global, seed: &[u8; 32], commands: &[u8; 72]) -> Result<Vec<u8>, AllocError> {
+    let (secret, ciphertext) = shared(alloc, seed);
     let keys = LabelKdf::expand(&secret);
     let mut routing = [0; 600];
     routing[48..120].copy_from_slice(commands);
@@ -67,7 +97,29 @@ pub fn packet(alloc: Global, seed: &[u8; 32], commands: &[u8; 72]) -> Result<Vec
     packet.extend_from_slice(&routing)?;
     let code = HmacMac::tag(&keys.mac, &packet);
     packet.extend_from_slice(&code)?;
-    packet.extend_from_slice(&payload(&keys.wide))?;
+    let mut payload = payload();
+    Lioness::encrypt(&keys.wide, &mut payload);
+    packet.extend_from_slice(&payload)?;
+    Ok(packet)
+}
+
+/// The replay tag of the packets with this seed.
+pub fn tag(alloc: Global, seed: &[u8; 32]) -> [u8; 32] {
+    let (_, ciphertext) = shared(alloc, seed);
+    sha256(&ciphertext)
+}
+
+/// What a packet with this seed to the next hop is there: its slot of zeros and commands is gone, zeros and the end
+/// of the key stream are behind, and the payload is bare.
+pub fn forwarded(alloc: Global, seed: &[u8; 32]) -> Result<Vec<u8>, AllocError> {
+    let (secret, _) = shared(alloc, seed);
+    let mut stream = [0; 720];
+    ChaCha::xor(&LabelKdf::expand(&secret).stream, &mut stream);
+    let mut packet = Vec::with_capacity(alloc, 1622)?;
+    packet.resize(2 + 48 + 480, 0)?;
+    packet.extend_from_slice(&stream[600..])?;
+    packet.extend_from_slice(&[0x33; 32])?;
+    packet.extend_from_slice(&payload())?;
     Ok(packet)
 }
 

@@ -1,6 +1,10 @@
 // Whole scripts, and the reports and statuses that they are owed.
-use super::packets::{packet, to_next_hop, to_recipient};
-use crate::{Status, mix_command};
+use super::packets::{
+    forwarded, packet, payload, tag, to_maker, to_next_hop, to_recipient, to_recipient_after,
+    to_recipient_and_more,
+};
+use crate::mix_command;
+use lab_text::Status;
 use mix_base::{MemSink, MemSource};
 use std::alloc::{AllocError, Global};
 use std::process::Abort;
@@ -38,17 +42,68 @@ fn shorter(alloc: Global) -> Result<Vec<u8>, AllocError> {
     Ok(packet)
 }
 
-/// What a capital letter stands for: N the node's line, D what is handed on, P the packet, S it without its last
-/// byte, L and M it with its last byte or the last byte of its code changed, F a packet for a next hop.
+/// The packet with these commands.
+fn commanded(alloc: Global, commands: &[u8; 72]) -> Result<String, AllocError> {
+    let packet = packet(alloc, &[1; 32], commands)?;
+    hex::encode(alloc, &packet)
+}
+
+/// Epoch, tag and recipient or next hop of the packets with this seed, as the report hands them on.
+fn head(alloc: Global, seed: u8) -> Result<String, AllocError> {
+    let tag = hex::encode(alloc, &tag(alloc, &[seed; 32]))?;
+    let id = hex::encode(alloc, &[0x22; 32])?;
+    format!(in alloc; "0 {tag} {id}")
+}
+
+/// How the report hands on the packet to the next hop.
+fn at_next_hop(alloc: Global) -> Result<String, AllocError> {
+    let head = head(alloc, 1)?;
+    let packet = hex::encode(alloc, &forwarded(alloc, &[1; 32])?)?;
+    format!(in alloc; "{head} {packet}")
+}
+
+/// How the report hands on the reply.
+fn at_maker(alloc: Global) -> Result<String, AllocError> {
+    let head = head(alloc, 1)?;
+    let id = hex::encode(alloc, &[0x44; 16])?;
+    let payload = hex::encode(alloc, &payload())?;
+    format!(in alloc; "{head} {id} {payload}")
+}
+
+/// How the report hands on the packet with the other seed.
+fn other_delivered(alloc: Global) -> Result<String, AllocError> {
+    let head = head(alloc, 2)?;
+    let body = hex::encode(alloc, &[0x41; 64])?;
+    format!(in alloc; "{head} {body} -")
+}
+
+/// What a capital letter of a report stands for, behind the number of the arrival: D the packet, E the one with the
+/// other seed, G what goes to the next hop, Y what goes to the maker of a reply block.
+fn handed(alloc: Global, letter: u8) -> Result<String, AllocError> {
+    match letter {
+        b'D' => String::from_str(alloc, DELIVERED),
+        b'E' => other_delivered(alloc),
+        b'G' => at_next_hop(alloc),
+        _ => at_maker(alloc),
+    }
+}
+
+/// What a capital letter of a script stands for: N the node's line, P the packet, Q one with another seed, S it
+/// without its last byte, L and M it with its last byte or the last byte of its code changed; and by its commands W
+/// after 500 milliseconds, X with a byte behind them, F to a next hop, R for the maker of a reply block.
 fn meant(alloc: Global, letter: u8) -> Result<String, AllocError> {
     match letter {
         b'N' => String::from_str(alloc, NODE),
-        b'D' => String::from_str(alloc, DELIVERED),
-        b'P' => hex::encode(alloc, &to_deliver(alloc)?),
+        b'P' => commanded(alloc, &to_recipient()),
+        b'Q' => hex::encode(alloc, &packet(alloc, &[2; 32], &to_recipient())?),
         b'S' => hex::encode(alloc, &shorter(alloc)?),
         b'L' => hex::encode(alloc, &changed(alloc, 1621)?),
         b'M' => hex::encode(alloc, &changed(alloc, 681)?),
-        _ => hex::encode(alloc, &packet(alloc, &[1; 32], &to_next_hop())?),
+        b'W' => commanded(alloc, &to_recipient_after(500)),
+        b'X' => commanded(alloc, &to_recipient_and_more()),
+        b'F' => commanded(alloc, &to_next_hop()),
+        b'R' => commanded(alloc, &to_maker()),
+        _ => handed(alloc, letter),
     }
 }
 
@@ -151,6 +206,47 @@ fn refused_packets(rt: HostRuntime) -> Result<(), Fail> {
 }
 
 #[test]
+fn commands_of_all_kinds(rt: HostRuntime) -> Result<(), Fail> {
+    let alloc = rt.alloc();
+    expect_reports(
+        &rt,
+        alloc,
+        &[
+            (
+                "held for its delay",
+                "N\nrecv 1000 W\npeel 0\nclaim 0\nsend 1499\nsend 1500\n",
+                Status::Done,
+                "none\ndeliver 1 D\n",
+            ),
+            (
+                "the least moment first",
+                "N\nrecv 1000 W\nrecv 1200 Q\npeel 0\npeel 1\nclaim 0\nclaim 1\nsend 1500\nsend 1500\n",
+                Status::Done,
+                "deliver 2 E\ndeliver 1 D\n",
+            ),
+            (
+                "to a next hop",
+                "N\nrecv 1000 F\npeel 0\nclaim 0\nsend 1000\n",
+                Status::Done,
+                "forward 1 G\n",
+            ),
+            (
+                "to the maker of a reply block",
+                "N\nrecv 1000 R\npeel 0\nclaim 0\nsend 1000\n",
+                Status::Done,
+                "reply 1 Y\n",
+            ),
+            (
+                "a byte behind the commands",
+                "N\nrecv 1000 X\npeel 0\n",
+                Status::Done,
+                "refuse 1 commands\n",
+            ),
+        ],
+    )
+}
+
+#[test]
 fn workers_and_ends(rt: HostRuntime) -> Result<(), Fail> {
     let alloc = rt.alloc();
     expect_reports(
@@ -174,12 +270,6 @@ fn workers_and_ends(rt: HostRuntime) -> Result<(), Fail> {
                 "an event for later",
                 "N\nrotate 5\n",
                 Status::Later { line: 2 },
-                "",
-            ),
-            (
-                "commands for later",
-                "N\nrecv 1000 F\npeel 0\n",
-                Status::Later { line: 3 },
                 "",
             ),
         ],

@@ -1,7 +1,7 @@
 use Rattle.std.proofs.Common.{rules, arith, ◌≡◌, ◌∙◌, Option, ◌+◌, IsSome, IfNone, IfSome, IsSomeAnd, subst}
 use Rattle.std.proofs.lemmas.Result.{err_from_is_err_and}
 use Rattle.mix_top.specs.Progress.{events_to_come, IsNext, IsMet, EndsAtEvent}
-use Rattle.mix_top.specs.Readers.{source_of, number_of, ReachesEnd}
+use Rattle.lab_text.specs.Readers.{source_of, number_of, ReachesEnd}
 use Rattle.mix_top.specs.Seen.{seen}
 use Rattle.mix_top.specs.declared.script.Event.{Event}
 use Rattle.mix_top.proofs.Tracking.{tracks_go_on, tracks_stop, tracks_stop_at, tells_on, reaches_end}

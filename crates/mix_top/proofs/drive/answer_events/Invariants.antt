@@ -1,6 +1,6 @@
 use Rattle.std.proofs.Common.{◌≡◌, ◌+◌, ◌-◌, ◌^◌, ◌≤◌, IfSome, IsSome}
 use Rattle.mix_top.specs.Progress.{events_to_come, Tracks}
-use Rattle.mix_top.specs.Readers.{source_of, number_of}
+use Rattle.lab_text.specs.Readers.{source_of, number_of}
 use Rattle.mix_top.specs.Seen.{seen}
 use Rattle.mix_top.proofs.drive.answer_events.Given as goal
 

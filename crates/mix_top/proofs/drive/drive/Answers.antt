@@ -2,7 +2,7 @@ use Rattle.std.proofs.Common.{Option, subst}
 use Rattle.mix_top.proofs.Programs.{script_answered, program_at_start}
 use Rattle.mix_top.specs.Program.{Program}
 use Rattle.mix_top.specs.Progress.{AnswersProgram}
-use Rattle.mix_top.specs.declared.statuses.Status.TheVariants.{Done}
+use Rattle.lab_text.specs.declared.statuses.Status.TheVariants.{Done}
 use Rattle.mix_top.proofs.drive.drive.Goals as goal
 
 pub returns-in-Ok-clause-report : goal.returns-in-Ok-clause-report

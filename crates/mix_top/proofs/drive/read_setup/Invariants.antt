@@ -1,6 +1,6 @@
 use Rattle.std.proofs.Common.{◌≡◌, ◌+◌, ◌-◌, ◌^◌, ◌≤◌, Some, IfSome, IsSome}
 use Rattle.mix_top.specs.Progress.{program_to_come}
-use Rattle.mix_top.specs.Readers.{source_of, number_of}
+use Rattle.lab_text.specs.Readers.{source_of, number_of}
 use Rattle.mix_top.proofs.drive.read_setup.Given as goal
 
 -- only skipped lines were read, so the program to come is still the same

@@ -1,0 +1,11 @@
+-- What the sink says of a text that stands fixed.
+use Rattle.lab_text.proofs.statuses.write_status.Goals as goal
+
+pub returns-in-ReadFault-clause-front : goal.returns-in-ReadFault-clause-front
+returns-in-ReadFault-clause-front g c = rw c.in-ReadFault.is c.put-in-ReadFault.ensures.front
+
+pub returns-in-Memory-clause-whole : goal.returns-in-Memory-clause-whole
+returns-in-Memory-clause-whole g c = rw c.in-Memory.is c.put-in-Memory.ensures.whole
+
+pub returns-in-Memory-clause-front : goal.returns-in-Memory-clause-front
+returns-in-Memory-clause-front g c = rw c.in-Memory.is c.put-in-Memory.ensures.front

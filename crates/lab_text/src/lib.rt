@@ -1,0 +1,13 @@
+// The texts of the commands: an input read line by line, the words of a line and what they say, and the statuses by
+// which a command ends. Each reader answers exactly what its definition in specs/ has.
+#![tactic(auto)]
+
+mod lines;
+mod statuses;
+#[cfg(test)]
+mod tests;
+mod words;
+
+pub use lines::{LineFault, LineReader};
+pub use statuses::{Status, code, write_status};
+pub use words::{next_word, read_bytes, read_number, read_seed};

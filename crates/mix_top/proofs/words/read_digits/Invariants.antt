@@ -1,6 +1,0 @@
-use Rattle.std.proofs.Common.{◌≡◌, drop}
-use Rattle.mix_top.specs.Words.{digits_value}
-use Rattle.mix_top.proofs.words.read_digits.Given as goal
-
-abbrev pub invariant-loop-byte : goal.invariant-loop-byte
-invariant-loop-byte l = digits_value l.value (drop l.byte-index l.word) ≡ digits_value 0 l.word
