@@ -1,5 +1,4 @@
 pub mod HandedLines
-pub mod LiveEpochs
 pub mod Members
 pub mod Once
 pub mod Programs

@@ -9,7 +9,7 @@ use Rattle.std.proofs.lemmas.Bool.{cases_lt, ltb-true, le-leb}
 use Rattle.std.proofs.lemmas.List.Elements.{Contains-append_left, Contains-append_right, Contains-push, Contains-push_cases}
 use Rattle.mix_top.proofs.Members.{none_in_empty, Contains-filter, Contains-without, Contains-head, Contains-cons_cases, NoneTwice-push, NoneTwice-without}
 use Rattle.mix_top.specs.Book.{Book, Claims, raise, add, kept}
-use Rattle.mix_top.specs.Epochs.{least_live}
+use Rattle.epoch_keys.specs.Epochs.{least_live}
 use Rattle.mix_top.specs.Report.{handed, NoneTwice}
 use Rattle.mix_top.specs.Node.{NodeState, new_node}
 use Rattle.mix_top.specs.Run.{Runs}

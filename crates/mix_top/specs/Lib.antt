@@ -1,7 +1,6 @@
 pub mod Answers
 pub mod Book
 pub mod Commands
-pub mod Epochs
 pub mod Keys
 pub mod Node
 pub mod Program

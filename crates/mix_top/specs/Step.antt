@@ -4,7 +4,7 @@ use Rattle.sphinx_unwrap.specs.Outcome.{unwrapped}
 use Rattle.sphinx_unwrap.specs.declared.outcome.Opened.{Opened}
 use Rattle.sphinx_unwrap.specs.declared.fault.Refused.{Refused}
 use Rattle.prim_std.specs.Laboratory.{lab_scheme, lab_meaning}
-use Rattle.mix_top.specs.Epochs.{live_epochs, least_live}
+use Rattle.epoch_keys.specs.Epochs.{live_epochs, least_live}
 use Rattle.mix_top.specs.Keys.{secret_key_of, first_open}
 use Rattle.mix_top.specs.Book.{Book, Claims}
 use Rattle.mix_top.specs.declared.book.Claim.{Claim}

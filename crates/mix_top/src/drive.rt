@@ -16,10 +16,11 @@ ghost use Rattle.mix_top.specs.Seen.{seen};
 ghost use Rattle.mix_top.specs.Step.{Step};
 
 use crate::items::Setup;
+use crate::moments::Moment;
 use crate::node::Node;
 use crate::report::{ReportLine, spell};
 use crate::script::{Event, is_skipped, read_event, read_node};
-use crate::times::{Moment, Times};
+use epoch_keys::Times;
 use lab_text::{LineReader, Status};
 use mix_base::{Kem, Memory, PutFault, Sink, Source};
 use packet_form::Geometry;

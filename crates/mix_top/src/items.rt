@@ -1,5 +1,6 @@
 // What a node is set up with, what arrives at it, and what it holds.
-use crate::times::{Moment, Times};
+use crate::moments::Moment;
+use epoch_keys::Times;
 use mix_base::Bytes;
 use packet_form::Geometry;
 use sphinx_unwrap::Out;

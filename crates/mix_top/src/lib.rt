@@ -5,15 +5,14 @@
 mod book;
 mod command;
 mod drive;
-mod epochs;
 mod items;
 mod keys;
+mod moments;
 mod node;
 mod report;
 mod script;
 #[cfg(test)]
 mod tests;
-mod times;
 
 pub use command::mix_command;
 pub use script::{Event, NodeLine, is_skipped, read_event, read_node};

@@ -7,11 +7,11 @@ ghost use Rattle.mix_top.specs.Step.{received, peeled, ClaimsFor, Sends, IsFirst
 ghost use Rattle.mix_top.specs.Step as steps;
 
 use crate::book::{Book, Claim};
-use crate::epochs::least_live;
 use crate::items::{Arrival, Item, Setup};
 use crate::keys::open_live;
+use crate::moments::Moment;
 use crate::report::ReportLine;
-use crate::times::Moment;
+use epoch_keys::least_live;
 use mix_base::{Bytes, Memory};
 use sphinx_unwrap::{Opened, UnwrapFault};
 use std::alloc::Global;

@@ -5,8 +5,8 @@ use Rattle.std.proofs.Math.Nat.{div-add-mod, mod-lt, mul-le-mul_right}
 use Rattle.std.specs.Cmp.Derive.{both_true}
 use Rattle.std.proofs.lemmas.Bool.{cases_lt, cases_eq, eqb-true, ltb-true, lt-ltb, leb-true, le-leb}
 use Rattle.std.proofs.lemmas.List.Elements.{filter_passes, All-contains}
-use Rattle.mix_top.proofs.Members.{Contains-cons_cases, Contains-filter, Contains-head, Contains-tail}
-use Rattle.mix_top.specs.Epochs.{EpochTimes, InRange, is_live, current, live_epochs}
+use Rattle.epoch_keys.proofs.Members.{Contains-cons_cases, Contains-filter, Contains-head, Contains-tail}
+use Rattle.epoch_keys.specs.Epochs.{EpochTimes, InRange, is_live, current, live_epochs}
 
 -- a moment lies in its current epoch
 in_current : (times : EpochTimes) (moment : ℕ) → InRange times → (current times moment * times.epoch ≤ moment) × (moment < current times moment * times.epoch + times.epoch)

@@ -1,8 +1,8 @@
 // Epochs of time: each is live for a while before it begins and after it ends, so at a moment one or two are.
-ghost use Rattle.std.specs.Prelude.{◌≡◌, ℕ, ◌^◌, ◌<◌, ◌↔◌, ◌∷◌, IsTrue, Contains};
+ghost use Rattle.std.specs.Prelude.{◌≡◌, ℕ, ◌^◌, ◌<◌, ◌≤◌, ◌↔◌, ◌∷◌, IsTrue, Contains};
 ghost use Rattle.std.specs.Option.{option_to_list};
-ghost use Rattle.mix_top.specs.Epochs.{is_live, current, live_epochs};
-ghost use Rattle.mix_top.specs.Epochs as epochs;
+ghost use Rattle.epoch_keys.specs.Epochs.{is_live, current, live_epochs};
+ghost use Rattle.epoch_keys.specs.Epochs as epochs;
 
 use crate::times::{Live, Times};
 
@@ -31,7 +31,9 @@ pub fn live(moment: u64, times: &Times) -> Live
 /// The least epoch that is live at a moment below 2^60.
 pub fn least_live(moment: u64, times: &Times) -> u64
     requires { moment < 2 ^ 60 }
-    ensures { result ≡ epochs.least_live times.now moment }
+    ensures value { result ≡ epochs.least_live times.now moment }
+    ensures live { IsTrue (is_live times.now result moment) }
+    ensures least { (epoch : ℕ) → IsTrue (is_live times.now epoch moment) → result ≤ epoch }
 {
     moment.saturating_sub(times.grace()) / times.epoch()
 }

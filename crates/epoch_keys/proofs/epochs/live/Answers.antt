@@ -1,5 +1,5 @@
-use Rattle.mix_top.proofs.LiveEpochs.{live_exactly}
-use Rattle.mix_top.proofs.epochs.live.Goals as goal
+use Rattle.epoch_keys.proofs.LiveEpochs.{live_exactly}
+use Rattle.epoch_keys.proofs.epochs.live.Goals as goal
 
 pub returns-then-moment-begun-clause-exactly : goal.returns-then-moment-begun-clause-exactly
 returns-then-moment-begun-clause-exactly c = live_exactly c.args.times.now c.args.moment c.epoch-epoch.ensures.in_range

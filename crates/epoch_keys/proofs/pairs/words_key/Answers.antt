@@ -1,7 +1,7 @@
 use Rattle.std.proofs.Common.{ℕ, List, [], ◌++◌, codes, ap, ◌∙◌}
 use Rattle.prim_std.specs.Primitives.{hmac}
-use Rattle.mix_top.specs.Keys.{epoch_seed}
-use Rattle.mix_top.proofs.keys.words_key.Goals as goal
+use Rattle.epoch_keys.specs.Keys.{epoch_seed}
+use Rattle.epoch_keys.proofs.pairs.words_key.Goals as goal
 
 pub returns : goal.returns
 unfolding epoch_seed

@@ -1,6 +1,6 @@
 // The lengths of epochs, and the epochs that are live at a moment.
-ghost use Rattle.std.specs.Prelude.{◌≡◌, ℕ, ◌^◌, ◌<◌, ◌≤◌, ◌↔◌, IsOk, IfOk, IsErrOf};
-ghost use Rattle.mix_top.specs.Epochs.{EpochTimes, InRange};
+ghost use Rattle.std.specs.Prelude.{◌≡◌, ℕ, ◌/◌, ◌^◌, ◌<◌, ◌≤◌, ◌↔◌, IsOk, IfOk, IsErrOf};
+ghost use Rattle.epoch_keys.specs.Epochs.{EpochTimes, InRange};
 
 use std::marker::Model;
 
@@ -36,6 +36,7 @@ impl Times {
     pub fn new(epoch: u64, grace: u64) -> Result<Times, TimesFault>
         ensures ok { IsOk result ↔ InRange (record { epoch = epoch; grace = grace }) }
         ensures epoch { IsErrOf result TimesFault.Epoch ↔ ((4 ≤ epoch) × (epoch ≤ 2 ^ 40) → ⊥) }
+        ensures grace { IsErrOf result TimesFault.Grace ↔ ((4 ≤ epoch) × (epoch ≤ 2 ^ 40) × (epoch / 4 < grace)) }
         ensures lengths { IfOk result (λ times. times ≡ record { epoch = epoch; grace = grace }) }
     {
         if !(4..=1 << 40).contains(&epoch) {
@@ -69,40 +70,4 @@ impl Times {
 pub struct Live {
     pub first: u64,
     pub other: Option<u64>,
-}
-
-/// A moment in milliseconds, below 2^60. Contracts see it as this number.
-#[derive(Clone, Copy)]
-pub struct Moment {
-    milliseconds: u64,
-}
-
-impl Model for Moment {
-    ghost use Rattle.std.specs.Prelude.{ℕ, ◌^◌, ◌<◌};
-
-    ghost Value = { ℕ };
-
-    ghost view = { λ m. m.milliseconds };
-
-    ghost invariant = { λ m. m.milliseconds < 2 ^ 60 };
-
-    ghost inverse = { λ n. record { milliseconds = n } };
-}
-
-impl Moment {
-    /// The moment of this number.
-    pub fn new(milliseconds: u64) -> Moment
-        requires { milliseconds < 2 ^ 60 }
-        ensures { result ≡ milliseconds }
-    {
-        Moment { milliseconds }
-    }
-
-    /// The number.
-    pub fn get(self) -> u64
-        ensures value { result ≡ self }
-        ensures below { result < 2 ^ 60 }
-    {
-        self.milliseconds
-    }
 }

@@ -1,0 +1,2 @@
+pub mod LiveEpochs
+pub mod Members

@@ -1,0 +1,4 @@
+pub mod Epochs
+pub mod Faults
+pub mod Keys
+pub mod Ring
