@@ -1,0 +1,5 @@
+pub mod Images
+pub mod Laying
+pub mod Marks
+pub mod Pending
+pub mod Ready
