@@ -1,0 +1,5 @@
+pub mod Appending
+pub mod Gates
+pub mod Moments
+pub mod Outside
+pub mod Scanning

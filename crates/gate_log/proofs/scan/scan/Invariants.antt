@@ -1,0 +1,10 @@
+use Rattle.std.proofs.Common.{◌≡◌}
+use Rattle.replay_disk.specs.Disk.{contents_of}
+use Rattle.gate_log.proofs.Gates.{ReadSoFar}
+use Rattle.gate_log.proofs.scan.scan.Given as goal
+
+abbrev pub invariant-loop-count : goal.invariant-loop-count
+invariant-loop-count g l = record {
+  same : g.R.Rack.state l.rack ≡ g.R.Rack.state l.fn.rack;
+  read : g.R.Rack.tells → ReadSoFar l.size (contents_of l.area (g.R.Rack.state l.fn.rack)) l.count l.records.items;
+}

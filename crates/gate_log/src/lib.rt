@@ -1,0 +1,11 @@
+// A log of records of one size on an area of a disk. At every moment of a call its records are the old ones, or the
+// old ones and the new one, whatever a crash leaves.
+#![tactic(auto)]
+
+mod log;
+mod scan;
+mod steps;
+#[cfg(test)]
+mod tests;
+
+pub use log::{GateLog, LogAppend, LogOpen, OpenedLog};
