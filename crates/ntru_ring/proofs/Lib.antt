@@ -1,0 +1,4 @@
+pub mod Residues
+pub mod Lists
+pub mod Sums
+pub mod Ring

@@ -1,0 +1,3 @@
+pub mod Centring
+pub mod Polynomials
+pub mod Product
