@@ -1,0 +1,4 @@
+pub mod Digits
+pub mod Soundness
+pub mod Spelled
+pub mod Reading

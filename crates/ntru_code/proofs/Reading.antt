@@ -1,0 +1,73 @@
+-- What a reader's answer says, from its values and causes.
+use Rattle.std.proofs.Common.{◌≡◌, ℕ, zero, suc, ◌+◌, ◌*◌, ◌<◌, ◌≤◌, ℤ, pos, negsuc, ◌+ℤ◌, ◌-ℤ◌, ◌*ℤ◌, List, [], ◌∷◌, length, map, get_or, refl, sym, ap, ◌∙◌, subst, arith, inl, inr, Result, Ok, Err}
+use Rattle.std.specs.Prelude.{IfOk, OnOk, IfErr, MatchResult}
+use Rattle.std.proofs.lemmas.Bool.{cases_lt}
+use Rattle.std.proofs.lemmas.Int.{ints}
+use Rattle.ntru_ring.specs.Centring.{IsWithin, centred}
+use Rattle.ntru_ring.specs.Polynomials.{IsPolynomial, coefficient, coefficients, reduced}
+use Rattle.ntru_ring.proofs.Residues.{centred_is}
+use Rattle.ntru_ring.proofs.Lists.{zero_within}
+use Rattle.ntru_ring.proofs.Ring.{coefficient_at, coefficient_behind}
+use Rattle.ntru_code.specs.Forms.{IsSound, CanSpell, AllInRange, IsFirstOutOfRange, field_in, bound_at, spelling, values, small}
+use Rattle.ntru_code.specs.Causes.{IsCause, OnlyMemory}
+use Rattle.ntru_code.specs.declared.forms.Form.{Form}
+use Rattle.ntru_code.specs.declared.faults.CodeFault.{CodeFault}
+use Rattle.ntru_code.specs.declared.faults.CodeFault.TheVariants.{Range, Memory}
+use Rattle.ntru_code.proofs.Spelled.{found_is_spelled, spelled_in_range, spelled_values, bound_inside}
+
+-- the first 761 fields, and one more where there is one
+pub all_in_range : (form : Form) (bytes : List ℕ) → IsSound form → ((k : ℕ) → k < 761 → field_in form bytes k < bound_at form k) → (761 < form.fields.count → field_in form bytes 761 < bound_at form 761) → AllInRange form bytes
+all_in_range form bytes sound below rest place inside =
+    elim (cases_lt place 761) [
+      | inl early ↦ below place early
+      | inr late ↦
+          (let e : place ≡ 761 = omega (arith, sound.most_count) in
+          subst (λ k. field_in form bytes k < bound_at form k) (sym e) (rest (omega arith)))
+    ]
+
+pub found : (form : Form) (bytes : List ℕ) → IsSound form → length bytes ≡ form.bytes.count → ((k : ℕ) → get_or bytes k 0 < 256) → (r : Result (List ℤ) CodeFault)
+    → IfOk r (λ p. p ≡ values form bytes) → OnOk r (AllInRange form bytes) → IfOk r (λ p. bytes ≡ spelling form p)
+found form bytes sound whole_length bytes_small (Ok p) value in_range =
+    subst (λ q. bytes ≡ spelling form q) (sym value) (found_is_spelled form bytes sound whole_length bytes_small in_range)
+found form bytes sound whole_length bytes_small (Err e) value in_range = tt
+
+-- no field of a spelled polynomial is to blame
+pub cause_is_memory : (form : Form) (bytes : List ℕ) (p : List ℤ) → IsSound form → CanSpell form p → bytes ≡ spelling form p → (e : CodeFault) → IsCause form bytes e → OnlyMemory e
+cause_is_memory form bytes p sound can spelled (Range range) first =
+    let below : field_in form bytes range.index < bound_at form range.index =
+    subst (λ b. field_in form b range.index < bound_at form range.index) (sym spelled) (spelled_in_range form p sound can range.index first.inside) in
+    omega (arith, below, first.out)
+cause_is_memory form bytes p sound can spelled Memory first = tt
+
+pub values_are : (form : Form) (bytes : List ℕ) (p : List ℤ) → IsSound form → CanSpell form p → bytes ≡ spelling form p → values form bytes ≡ p
+values_are form bytes p sound can spelled = ap (values form) spelled ∙ spelled_values form p sound can
+
+pub only : (form : Form) (bytes : List ℕ) (p : List ℤ) → IsSound form → CanSpell form p → bytes ≡ spelling form p → (r : Result (List ℤ) CodeFault)
+    → IfOk r (λ q. q ≡ values form bytes) → IfErr r (IsCause form bytes) → MatchResult r (λ q. q ≡ p) OnlyMemory
+only form bytes p sound can spelled (Ok q) value first = value ∙ values_are form bytes p sound can spelled
+only form bytes p sound can spelled (Err e) value first = cause_is_memory form bytes p sound can spelled e first
+
+-- the values of the small form are residues modulo 3 already
+residue_same : (z : ℤ) → IsWithin 1 z → centred 3 z ≡ z
+residue_same z within = centred_is 1 z (pos 0) z within (omega (arith, ints))
+
+reduced_same : (p : List ℤ) → ((k : ℕ) → IsWithin 1 (coefficient p k)) → reduced p ≡ p
+reduced_same [] within = refl
+reduced_same (x ∷ xs) within =
+    let head : centred 3 x ≡ x = residue_same x (within 0) in
+    let tail : reduced xs ≡ xs = reduced_same xs (λ k. within (suc k)) in
+    cc
+
+small_within : (bytes : List ℕ) → AllInRange small bytes → (k : ℕ) → IsWithin 1 (coefficient (values small bytes) k)
+unfolding values
+small_within bytes in_range k =
+    let at : ℕ → ℤ = λ place. pos (small.step * field_in small bytes place) -ℤ pos small.lowest in
+    elim (cases_lt k 761) [
+      | inl early ↦
+          (let below : field_in small bytes k < 3 = omega (arith, in_range k (omega arith), bound_inside small k early) in
+          subst (IsWithin 1) (sym (coefficient_at 761 at k early)) (record { low = omega (arith, ints); high = omega (arith, ints) }))
+      | inr late ↦ subst (IsWithin 1) (sym (coefficient_behind 761 at k late)) (zero_within 1)
+    ]
+
+pub small_reduced : (bytes : List ℕ) → AllInRange small bytes → reduced (values small bytes) ≡ values small bytes
+small_reduced bytes in_range = reduced_same (values small bytes) (small_within bytes in_range)

@@ -1,0 +1,15 @@
+use Rattle.std.proofs.Common.{arith, refl}
+use Rattle.ntru_code.specs.Forms.{spelling, whole}
+use Rattle.ntru_code.proofs.Soundness.{whole_is_sound}
+use Rattle.ntru_code.proofs.Spelled.{whole_can_spell, field_below_base}
+use Rattle.ntru_code.proofs.encoding.encode_q.Goals as goal
+
+pub encode-requires-clause-sound : goal.encode-requires-clause-sound
+encode-requires-clause-sound c = whole_is_sound
+
+pub encode-requires-clause-small : goal.encode-requires-clause-small
+encode-requires-clause-small c = field_below_base whole c.args.a.now whole_is_sound (whole_can_spell c.args.a.now c.at.ensures.in_range)
+
+pub returns : goal.returns
+unfolding spelling
+returns c = c.encode.ensures
