@@ -1,0 +1,12 @@
+pub mod Congruences
+pub mod Integers
+pub mod Linear
+pub mod Lists
+pub mod Primes
+pub mod Steps
+pub mod Units
+pub mod Progress
+pub mod Products
+pub mod Shifts
+pub mod Laws
+pub mod RingLaws
