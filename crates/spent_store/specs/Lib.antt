@@ -1,0 +1,7 @@
+pub mod Answers
+pub mod Books
+pub mod Changes
+pub mod Journals
+pub mod Records
+pub mod Root
+pub mod Seen

@@ -1,0 +1,16 @@
+// The store of spent replay tags: a root that says which epochs have begun and where the floor is, and a log of tags
+// for each begun epoch.
+#![tactic(auto)]
+
+mod answers;
+mod known;
+mod logs;
+mod objections;
+mod reading;
+mod root;
+mod standing;
+#[cfg(test)]
+mod tests;
+
+pub use answers::{Book, ClaimFault, OpenStore, RetireFault};
+pub use objections::Objection;
