@@ -1,8 +1,7 @@
 -- The records of an area as a record is appended, as the end is closed, and as the log is emptied.
-use Rattle.std.proofs.Common.{◌≡◌, ◌≢◌, ◌⊎◌, inl, inr, ℕ, zero, suc, ◌+◌, ◌-◌, ◌*◌, ◌<◌, ◌≤◌, Bool, true, false, List, [], ◌∷◌, ◌++◌, length, get_or, take, drop, replicate, refl, sym, ◌∙◌, ap, subst, arith, max, min, length-append, length-take, length-drop, take-append-drop}
-use Rattle.std.proofs.lemmas.List.{append-nil, append_assoc, take-take, take_at, take_all, drop_at, drop_all, drop_more, get_or-take, get_or-drop, get_or_at, length-take-le, drop-replicate}
+use Rattle.std.proofs.Common.{◌≡◌, inl, inr, ℕ, suc, ◌+◌, ◌-◌, ◌*◌, ◌<◌, ◌≤◌, List, [], ◌∷◌, ◌++◌, length, get_or, take, drop, replicate, refl, sym, ◌∙◌, ap, arith, max, length-append, length-take, length-drop, take-append-drop}
+use Rattle.std.proofs.lemmas.List.{append-nil, append_assoc, take-take, take_at, take_all, drop_at, drop_more, get_or-take, get_or-drop, get_or_at, length-take-le, drop-replicate}
 use Rattle.std.proofs.lemmas.Bool.{cases_lt, cases_eq}
-use Rattle.std.specs.Prelude.{slice_index}
 use Rattle.replay_disk.specs.Disk.{with_bytes}
 use Rattle.gate_log.specs.Log.{SameOutside, IsOldOrWith, IsOldOrNone}
 use Rattle.gate_log.specs.Records.{records, end_place, IsClosed}

@@ -1,13 +1,12 @@
 -- What a gate byte says of the records from its place on, and how a scan goes on from gate to gate.
-use Rattle.std.proofs.Common.{◌≡◌, ◌≢◌, ◌⊎◌, inl, inr, ℕ, zero, suc, ◌+◌, ◌-◌, ◌*◌, ◌<◌, ◌≤◌, Bool, true, false, cond, List, [], ◌∷◌, ◌++◌, length, get_or, take, drop, refl, sym, ◌∙◌, ap, subst, arith, min, length-append, length-take, length-drop}
-use Rattle.std.proofs.lemmas.List.{append-nil, append_assoc, take-take, take_all, drop-drop, drop-take, get_or-drop}
+use Rattle.std.proofs.Common.{◌≡◌, ◌≢◌, ◌⊎◌, inl, inr, ℕ, suc, ◌+◌, ◌*◌, ◌<◌, ◌≤◌, true, false, List, [], ◌∷◌, ◌++◌, length, get_or, take, drop, refl, sym, ◌∙◌, ap, arith, length-append, length-drop}
+use Rattle.std.proofs.lemmas.List.{append-nil, append_assoc, take-take, drop-drop, drop-take, get_or-drop}
 use Rattle.std.proofs.lemmas.Bool.{cases_lt, cases_eq}
 use Rattle.std.proofs.lemmas.Bool.Decides.{nat_tests}
-use Rattle.std.specs.Prelude.{slice_index, ◌==◌, nat_lt, if◌then◌else◌}
+use Rattle.std.specs.Prelude.{◌==◌, nat_lt}
 use Rattle.std.specs.List.{concat}
-use Rattle.gate_log.specs.declared.scan.Gate.{Gate}
 use Rattle.gate_log.specs.declared.scan.Gate.TheVariants.{Record, Closed, Open}
-use Rattle.gate_log.specs.Records.{records, end_place, gate_of, IsClosed, IsScanned, IsOverfull}
+use Rattle.gate_log.specs.Records.{records, end_place, gate_of, IsScanned, IsOverfull}
 use Rattle.gate_log.specs.declared.scan.Found.{Found}
 use Rattle.gate_log.proofs.Scanning.{records-open, records-shut, records-few}
 

@@ -1,5 +1,5 @@
 -- What a log's steps leave at every moment, from what their writes leave outside a range.
-use Rattle.std.proofs.Common.{◌≡◌, ◌≢◌, inl, inr, ℕ, ◌+◌, ◌*◌, ◌<◌, ◌≤◌, List, [], ◌∷◌, ◌++◌, length, refl, sym, ◌∙◌, ap, subst, arith}
+use Rattle.std.proofs.Common.{◌≡◌, inl, ℕ, ◌+◌, ◌<◌, ◌≤◌, List, [], ◌∷◌, ◌++◌, length, refl, sym, ◌∙◌, ap, subst, arith}
 use Rattle.replay_disk.specs.Disk.{Areas, RackState, area_at, contents_of, settled, with_bytes, ContentsAreImages, ChangesOnly, IsSynced}
 use Rattle.replay_disk.specs.Laws.{weaker, chained, started, goes_on}
 use Rattle.replay_disk.specs.Moments.{AtEachMoment, PassesOne}

@@ -1,5 +1,5 @@
 -- A write over an area at rest, and what a crash may leave of it.
-use Rattle.std.proofs.Common.{◌≡◌, ◌≢◌, ℕ, ◌+◌, ◌-◌, ◌<◌, ◌≤◌, List, [], ◌∷◌, ◌++◌, length, get_or, take, drop, refl, sym, ◌∙◌, ap, subst, arith, max, min, length-take, length-drop}
+use Rattle.std.proofs.Common.{◌≡◌, ℕ, ◌+◌, ◌<◌, ◌≤◌, List, length, get_or, take, drop, refl, sym, ◌∙◌, ap, subst, arith, max, length-take, length-drop}
 use Rattle.std.proofs.lemmas.List.{ext_get_or, get_or-take, get_or-drop}
 use Rattle.replay_disk.specs.Disk.{Range, Area, Areas, RackState, area_at, contents_of, IsOutside, IsImage, IsTried, IsSynced, ChangesOnly, ContentsAreImages, settled}
 use Rattle.replay_disk.specs.Laws.{only_image, started, goes_on}

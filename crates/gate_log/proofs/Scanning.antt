@@ -1,10 +1,10 @@
 -- The records of bytes: those of a front and of what follows it, and where they end.
-use Rattle.std.proofs.Common.{◌≡◌, ◌≢◌, ◌⊎◌, inl, inr, ℕ, zero, suc, ◌+◌, ◌-◌, ◌*◌, ◌<◌, ◌≤◌, Bool, true, false, cond, List, [], ◌∷◌, ◌++◌, length, get_or, take, drop, refl, sym, ◌∙◌, ap, subst, arith, min, eq-eqb, length-append, length-take, length-drop, take-append-drop}
-use Rattle.std.proofs.lemmas.List.{append-nil, append_assoc, append_cancel_left, take-append-le, take-take, take_all, drop_all, drop_more, get_or-drop}
+use Rattle.std.proofs.Common.{◌≡◌, ◌≢◌, ◌⊎◌, inl, inr, ℕ, zero, suc, ◌+◌, ◌*◌, ◌<◌, ◌≤◌, true, false, List, [], ◌∷◌, ◌++◌, length, take, drop, refl, sym, ◌∙◌, ap, arith, length-append, length-take, take-append-drop}
+use Rattle.std.proofs.lemmas.List.{append-nil, take-append-le, take-take}
 use Rattle.std.proofs.lemmas.Bool.{cases_lt, cases_eq}
 use Rattle.std.proofs.lemmas.Bool.Decides.{nat_tests}
-use Rattle.std.specs.Prelude.{slice_index, ◌==◌, ◌&&◌, nat_lt}
-use Rattle.gate_log.specs.Records.{records_after, records, end_place, IsClosed}
+use Rattle.std.specs.Prelude.{◌==◌, ◌&&◌, nat_lt}
+use Rattle.gate_log.specs.Records.{records_after, records, end_place}
 
 -- skipped bytes are dropped
 pub records_after-drop : (size skipped : ℕ) (bytes : List ℕ) → records_after size skipped bytes ≡ records_after size zero (drop skipped bytes)

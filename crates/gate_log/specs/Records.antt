@@ -1,6 +1,6 @@
 -- What the bytes of an area stand for, read as a log: each record has a gate byte before it, and counts where that
 -- is 01 and the record and one byte more are there.
-use Rattle.std.specs.Prelude.{◌≡◌, ◌≢◌, ℕ, zero, suc, ◌+◌, ◌*◌, ◌<◌, ◌≤◌, Bool, List, [], ◌∷◌, ◌++◌, length, take, drop, slice_index, nat_lt, ◌==◌, ◌&&◌, if◌then◌else◌, true, false}
+use Rattle.std.specs.Prelude.{◌≡◌, ◌≢◌, ℕ, zero, suc, ◌+◌, ◌*◌, ◌<◌, ◌≤◌, List, [], ◌∷◌, length, take, drop, slice_index, nat_lt, ◌==◌, ◌&&◌, if◌then◌else◌, true, false}
 use Rattle.std.specs.List.{concat}
 use Rattle.gate_log.specs.declared.scan.Found.{Found}
 use Rattle.gate_log.specs.declared.scan.Gate.{Gate}

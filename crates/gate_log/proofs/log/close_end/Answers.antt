@@ -1,5 +1,5 @@
-use Rattle.std.proofs.Common.{◌≡◌, ◌≤◌, length, ap, sym, arith, subst, List, ℕ}
-use Rattle.replay_disk.specs.Disk.{Areas, RackState, area_at, contents_of}
+use Rattle.std.proofs.Common.{◌≡◌, length, ap, arith, List, ℕ}
+use Rattle.replay_disk.specs.Disk.{RackState, contents_of}
 use Rattle.replay_disk.specs.Laws.{started}
 use Rattle.gate_log.specs.Log.{EachImage}
 use Rattle.gate_log.specs.Records.{records}

@@ -1,5 +1,4 @@
-use Rattle.std.proofs.Common.{◌<◌, length, ap, sym, subst, arith}
-use Rattle.replay_disk.specs.Disk.{contents_of}
+use Rattle.std.proofs.Common.{◌<◌, length, sym, subst, arith}
 use Rattle.replay_disk.specs.Moments.{AtEachMoment}
 use Rattle.gate_log.specs.Log.{LogState, EachImage, IsOldOrNone, Stands, records_of}
 use Rattle.gate_log.specs.Records.{records}
