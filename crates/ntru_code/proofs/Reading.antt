@@ -1,19 +1,19 @@
 -- What a reader's answer says, from its values and causes.
-use Rattle.std.proofs.Common.{◌≡◌, ℕ, zero, suc, ◌+◌, ◌*◌, ◌<◌, ◌≤◌, ℤ, pos, negsuc, ◌+ℤ◌, ◌-ℤ◌, ◌*ℤ◌, List, [], ◌∷◌, length, map, get_or, refl, sym, ap, ◌∙◌, subst, arith, inl, inr, Result, Ok, Err}
+use Rattle.std.proofs.Common.{◌≡◌, ℕ, suc, ◌*◌, ◌<◌, ℤ, pos, ◌-ℤ◌, List, [], ◌∷◌, length, get_or, refl, sym, ap, ◌∙◌, subst, arith, inl, inr, Result, Ok, Err}
 use Rattle.std.specs.Prelude.{IfOk, OnOk, IfErr, MatchResult}
 use Rattle.std.proofs.lemmas.Bool.{cases_lt}
 use Rattle.std.proofs.lemmas.Int.{ints}
 use Rattle.ntru_ring.specs.Centring.{IsWithin, centred}
-use Rattle.ntru_ring.specs.Polynomials.{IsPolynomial, coefficient, coefficients, reduced}
+use Rattle.ntru_ring.specs.Polynomials.{coefficient, reduced}
 use Rattle.ntru_ring.proofs.Residues.{centred_is}
 use Rattle.ntru_ring.proofs.Lists.{zero_within}
 use Rattle.ntru_ring.proofs.Ring.{coefficient_at, coefficient_behind}
-use Rattle.ntru_code.specs.Forms.{IsSound, CanSpell, AllInRange, IsFirstOutOfRange, field_in, bound_at, spelling, values, small}
+use Rattle.ntru_code.specs.Forms.{IsSound, CanSpell, AllInRange, AllMultiples, field_in, bound_at, spelling, values, small, rounded}
 use Rattle.ntru_code.specs.Causes.{IsCause, OnlyMemory}
 use Rattle.ntru_code.specs.declared.forms.Form.{Form}
 use Rattle.ntru_code.specs.declared.faults.CodeFault.{CodeFault}
 use Rattle.ntru_code.specs.declared.faults.CodeFault.TheVariants.{Range, Memory}
-use Rattle.ntru_code.proofs.Spelled.{found_is_spelled, spelled_in_range, spelled_values, bound_inside}
+use Rattle.ntru_code.proofs.Spelled.{found_is_spelled, spelled_in_range, spelled_values, bound_inside, values_are_multiples}
 
 -- the first 761 fields, and one more where there is one
 pub all_in_range : (form : Form) (bytes : List ℕ) → IsSound form → ((k : ℕ) → k < 761 → field_in form bytes k < bound_at form k) → (761 < form.fields.count → field_in form bytes 761 < bound_at form 761) → AllInRange form bytes
@@ -71,3 +71,8 @@ small_within bytes in_range k =
 
 pub small_reduced : (bytes : List ℕ) → AllInRange small bytes → reduced (values small bytes) ≡ values small bytes
 small_reduced bytes in_range = reduced_same (values small bytes) (small_within bytes in_range)
+
+-- what the rounded form reads has multiples of 3 alone
+pub multiples_read : (bytes : List ℕ) (r : Result (List ℤ) CodeFault) → IfOk r (λ p. p ≡ values rounded bytes) → IfOk r AllMultiples
+multiples_read bytes (Ok p) value = subst AllMultiples (sym value) (values_are_multiples bytes)
+multiples_read bytes (Err e) value = tt

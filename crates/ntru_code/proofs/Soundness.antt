@@ -1,7 +1,7 @@
 -- The three forms are sound.
-use Rattle.std.proofs.Common.{◌≡◌, ℕ, suc, ◌+◌, ◌-◌, ◌*◌, ◌^◌, ◌<◌, ◌≤◌, min, refl, arith, inl, inr, lit≤, lit<}
+use Rattle.std.proofs.Common.{◌≡◌, ◌-◌, ◌*◌, min, refl, arith, inl, inr, lit≤, lit<}
 use Rattle.std.proofs.lemmas.Bool.{cases_lt}
-use Rattle.ntru_code.specs.Packing.{last_of, Agree, HasRoom}
+use Rattle.ntru_code.specs.Packing.{last_of, HasRoom}
 use Rattle.ntru_code.specs.Forms.{IsSound, small, whole, rounded}
 
 small_room : HasRoom small.fields small.bytes

@@ -1,13 +1,12 @@
 -- What the bytes of a form spell: from bytes to polynomial and back, and from polynomial to bytes and back.
-use Rattle.std.proofs.Common.{◌≡◌, ℕ, zero, suc, ◌+◌, ◌-◌, ◌*◌, ◌/◌, ◌<◌, ◌≤◌, ℤ, pos, ◌+ℤ◌, ◌-ℤ◌, ◌*ℤ◌, unsigned_abs, List, length, map, get_or, refl, sym, ap, ◌∙◌, subst, arith, inl, inr}
+use Rattle.std.proofs.Common.{◌≡◌, ℕ, ◌*◌, ◌/◌, ◌<◌, ◌≤◌, ℤ, pos, ◌+ℤ◌, ◌-ℤ◌, unsigned_abs, List, length, map, get_or, sym, ap, ◌∙◌, subst, arith, inl, inr}
 use Rattle.std.specs.List.{range_with_len}
 use Rattle.std.proofs.lemmas.Bool.{cases_lt}
 use Rattle.std.proofs.lemmas.Int.{ints}
 use Rattle.std.proofs.Math.Nat.{mul-div_cancel_left}
-use Rattle.std.proofs.lemmas.List.FromFn.{fill_by_all, get_or-map-range_with_len, length-map-range_with_len}
-use Rattle.ntru_ring.specs.Centring.{IsWithin}
+use Rattle.std.proofs.lemmas.List.FromFn.{fill_by_all, get_or-map-range_with_len}
 use Rattle.ntru_ring.specs.Polynomials.{IsPolynomial, coefficient, coefficients}
-use Rattle.ntru_ring.proofs.Ring.{coefficient_at, length-coefficients}
+use Rattle.ntru_ring.proofs.Ring.{coefficient_at, coefficient_behind}
 use Rattle.ntru_code.specs.Packing.{translated}
 use Rattle.ntru_code.specs.Forms.{IsSound, CanSpell, AllInRange, AllMultiples, field, field_in, bound_at, spelling, values, small, whole, rounded}
 use Rattle.ntru_code.specs.declared.forms.Form.{Form}
@@ -57,6 +56,16 @@ found_is_spelled form bytes sound whole_length small in_range =
     (λ i. subst (λ m. get_or bytes i 0 < m) (sym sound.byte_base) (small i))
     (same_field form bytes sound in_range)
     sound.out.same_groups k inside))
+
+-- what the rounded form reads has multiples of 3 alone: 3 f - 2295 is 3 (f - 765)
+pub values_are_multiples : (bytes : List ℕ) → AllMultiples (values rounded bytes)
+unfolding values
+values_are_multiples bytes place =
+    let at : ℕ → ℤ = λ k. pos (3 * field_in rounded bytes k) -ℤ pos 2295 in
+    elim (cases_lt place 761) [
+      | inl early ↦ (pos (field_in rounded bytes place) -ℤ pos 765, omega (arith, ints, coefficient_at 761 at place early))
+      | inr late ↦ (pos 0, omega (arith, ints, coefficient_behind 761 at place late))
+    ]
 
 -- what was spelled so is read: the field in the bytes is the field of the coefficient
 pub spelled_field : (form : Form) (p : List ℤ) → IsSound form → CanSpell form p → (place : ℕ) → place < form.fields.count → field_in form (spelling form p) place ≡ field form p place

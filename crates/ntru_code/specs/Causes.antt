@@ -1,5 +1,5 @@
 -- Why reading failed.
-use Rattle.std.specs.Prelude.{◌≡◌, ℕ, List}
+use Rattle.std.specs.Prelude.{ℕ, List}
 use Rattle.ntru_code.specs.Forms.{IsFirstOutOfRange}
 use Rattle.ntru_code.specs.declared.forms.Form.{Form}
 use Rattle.ntru_code.specs.declared.faults.CodeFault.{CodeFault}

@@ -2,9 +2,7 @@
 use Rattle.std.specs.Prelude.{◌≡◌, ℕ, ◌+◌, ◌*◌, ◌/◌, ◌<◌, ◌≤◌, ℤ, pos, ◌+ℤ◌, ◌-ℤ◌, ◌*ℤ◌, List, length, map, unsigned_abs, nat_lt, slice_index, if◌then◌else◌}
 use Rattle.std.specs.List.{range_with_len}
 use Rattle.ntru_ring.specs.Polynomials.{coefficient, coefficients}
-use Rattle.ntru_ring.specs.Centring.{IsWithin}
 use Rattle.ntru_code.specs.Packing.{translated, Agree, HasRoom}
-use Rattle.ntru_code.specs.declared.packing.Side.{Side}
 use Rattle.ntru_code.specs.declared.forms.Form.{Form}
 
 -- c + 1 below 3, four fields in a byte, and a field that is always 0 for the bits that are left over

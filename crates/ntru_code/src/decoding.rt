@@ -46,6 +46,7 @@ pub fn decode_rounded(alloc: Global, bytes: &[u8]) -> Result<PolyQ, CodeFault>
     requires { length bytes.now ≡ 1015 }
     // What is read is spelled so.
     ensures found { IfOk result (λ p. bytes.now ≡ spelling rounded p) }
+    ensures multiples { IfOk result AllMultiples }
     // What is spelled so is read, unless memory runs out.
     ensures only { (p : List ℤ) → IsPolynomial 2295 p → AllMultiples p → bytes.now ≡ spelling rounded p → MatchResult result (λ r. r ≡ p) OnlyMemory }
     // Which field is refused.

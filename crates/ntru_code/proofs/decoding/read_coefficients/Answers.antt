@@ -1,4 +1,4 @@
-use Rattle.std.proofs.Common.{◌≡◌, ℕ, ℤ, ◌+◌, ◌*◌, ◌<◌, ◌≤◌, pos, ◌-ℤ◌, ◌∷◌, [], ◌++◌, length, sym, ◌∙◌, ap, subst, to_z, of_z, w16, arith, below_more}
+use Rattle.std.proofs.Common.{◌≡◌, ℕ, ℤ, ◌*◌, ◌<◌, pos, ◌-ℤ◌, ◌∷◌, [], ◌++◌, length, sym, ◌∙◌, ap, subst, to_z, of_z, w16, arith, below_more}
 use Rattle.std.proofs.lemmas.Int.{ints}
 use Rattle.ntru_ring.specs.Polynomials.{coefficients}
 use Rattle.ntru_ring.proofs.Lists.{zero_within}

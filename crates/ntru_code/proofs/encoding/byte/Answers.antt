@@ -1,5 +1,4 @@
-use Rattle.std.proofs.Common.{◌<◌, ◌≡◌, arith}
-use Rattle.ntru_code.specs.Packing.{translated}
+use Rattle.std.proofs.Common.{arith}
 use Rattle.ntru_code.proofs.Digits.{translated_below}
 use Rattle.ntru_code.proofs.encoding.byte.Goals as goal
 

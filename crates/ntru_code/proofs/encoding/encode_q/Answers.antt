@@ -1,4 +1,3 @@
-use Rattle.std.proofs.Common.{arith, refl}
 use Rattle.ntru_code.specs.Forms.{spelling, whole}
 use Rattle.ntru_code.proofs.Soundness.{whole_is_sound}
 use Rattle.ntru_code.proofs.Spelled.{whole_can_spell, field_below_base}

@@ -1,4 +1,3 @@
-use Rattle.std.proofs.Common.{arith, refl}
 use Rattle.ntru_code.specs.Forms.{spelling, rounded}
 use Rattle.ntru_code.proofs.Soundness.{rounded_is_sound}
 use Rattle.ntru_code.proofs.Spelled.{rounded_can_spell, field_below_base}

@@ -1,5 +1,4 @@
-use Rattle.std.proofs.Common.{◌≡◌, ◌+◌, ◌-◌, ◌/◌, ◌%◌, sym, ◌∙◌, arith}
-use Rattle.ntru_code.specs.Packing.{digit}
+use Rattle.std.proofs.Common.{◌+◌, ◌-◌, sym, ◌∙◌, arith}
 use Rattle.ntru_code.proofs.Digits.{digit_more, digit_last, digit_first}
 use Rattle.ntru_code.proofs.packing.digit.Goals as goal
 

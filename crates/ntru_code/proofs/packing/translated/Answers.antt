@@ -1,5 +1,5 @@
-use Rattle.std.proofs.Common.{◌≡◌, ℕ, suc, ◌+◌, ◌-◌, ◌*◌, ◌/◌, ◌%◌, ◌^◌, ◌<◌, ◌≤◌, sym, ap, ◌∙◌, subst, arith, refl}
-use Rattle.ntru_code.specs.Packing.{translated, group_number, number, digit, last_of}
+use Rattle.std.proofs.Common.{ℕ, ◌*◌, ◌/◌, ◌<◌, arith, refl}
+use Rattle.ntru_code.specs.Packing.{translated, group_number}
 use Rattle.ntru_code.proofs.Digits.{last_in_group, last_in_count, place_in_group, group_in_count, power_fits}
 use Rattle.ntru_code.proofs.packing.translated.Goals as goal
 
