@@ -4,7 +4,7 @@ use Rattle.std.specs.List.{EachIndex, list_any}
 use Rattle.std.proofs.lemmas.Bool.{cases_lt, ltb-false, eq-eqb, ne_eqb}
 use Rattle.std.proofs.lemmas.List.{length-map}
 use Rattle.spent_store.specs.Books.{EpochLog, amiss, area_of, log_in, overfull, overfull_log}
-use Rattle.spent_store.specs.Records.{records}
+use Rattle.gate_log.specs.Records.{records}
 use Rattle.spent_store.specs.Root.{AreNear, floor_of, begun_of}
 use Rattle.spent_store.specs.declared.objections.Objection.{Objection}
 use Rattle.spent_store.specs.declared.root.RootRecord.{RootRecord}

@@ -1,7 +1,7 @@
 -- The records of a log, one by one.
 use Rattle.std.proofs.Common.{◌≡◌, ℕ, zero, suc, ◌<◌, ◌≤◌, ◌==◌, ◌&&◌, nat_lt, Bool, true, false, if◌then◌else◌, List, [], ◌∷◌, length, take, drop, refl, ap}
 use Rattle.std.proofs.lemmas.Bool.{lt-ltb, le-ltb, eq-eqb, ne_eqb}
-use Rattle.spent_store.specs.Records.{records, records_after}
+use Rattle.gate_log.specs.Records.{records, records_after}
 
 -- bytes that are skipped might as well not be there
 pub records_skipped : (size skipped : ℕ) (bytes : List ℕ) → records_after size skipped bytes ≡ records size (drop skipped bytes)

@@ -4,7 +4,7 @@ use Rattle.std.specs.List.{flat_map, list_any}
 use Rattle.std.specs.Option.{option_map}
 use Rattle.std.specs.Str.{bytes_eq}
 use Rattle.mix_base.specs.declared.suites.Shape.{Shape}
-use Rattle.spent_store.specs.Records.{records}
+use Rattle.gate_log.specs.Records.{records}
 use Rattle.spent_store.specs.Root.{roots_in, floor_of, begun_of, shape_value, value_shape, first_amiss}
 use Rattle.spent_store.specs.declared.root.RootRecord.{RootRecord}
 use Rattle.spent_store.specs.declared.root.RootRecord.TheVariants.{Made}

@@ -2,6 +2,5 @@ pub mod Answers
 pub mod Books
 pub mod Changes
 pub mod Journals
-pub mod Records
 pub mod Root
 pub mod Seen

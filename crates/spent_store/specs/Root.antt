@@ -3,7 +3,7 @@ use Rattle.std.specs.Prelude.{◌≡◌, ℕ, ◌+◌, ◌*◌, ◌/◌, ◌%◌
 use Rattle.std.specs.Int.{from_be_bytes, w64}
 use Rattle.std.specs.List.{filter_map, list_any}
 use Rattle.mix_base.specs.declared.suites.Shape.{Shape}
-use Rattle.spent_store.specs.Records.{records}
+use Rattle.gate_log.specs.Records.{records}
 use Rattle.spent_store.specs.declared.root.RootRecord.{RootRecord}
 use Rattle.spent_store.specs.declared.root.RootRecord.TheVariants.{Made, Begin, Floor, Other}
 

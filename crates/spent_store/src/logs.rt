@@ -2,7 +2,7 @@
 ghost use Rattle.std.specs.Prelude.{◌≡◌, ℕ, ◌+◌, ◌*◌, ◌^◌, ◌<◌, ◌≤◌, List, [], ◌∷◌, length, MatchOption, IfSome, IfOk};
 ghost use Rattle.std.specs.Result.{result_err};
 ghost use Rattle.spent_store.specs.Books as books;
-ghost use Rattle.spent_store.specs.Records.{records};
+ghost use Rattle.gate_log.specs.Records.{records};
 ghost use Rattle.spent_store.specs.Root.{roots_in};
 
 use crate::objections::Objection;

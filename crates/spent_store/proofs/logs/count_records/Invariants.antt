@@ -1,6 +1,6 @@
 -- What was counted and what is to come are all records.
 use Rattle.std.proofs.Common.{◌≡◌, ◌+◌, ◌≤◌, length}
-use Rattle.spent_store.specs.Records.{records}
+use Rattle.gate_log.specs.Records.{records}
 use Rattle.spent_store.proofs.logs.count_records.Given as goal
 
 abbrev pub invariant-counting : goal.invariant-counting

@@ -1,6 +1,6 @@
 -- What was read and what is to come are all records.
 use Rattle.std.proofs.Common.{◌≡◌, ◌++◌, length}
-use Rattle.spent_store.specs.Records.{records}
+use Rattle.gate_log.specs.Records.{records}
 use Rattle.spent_store.proofs.logs.read_tags.Given as goal
 
 abbrev pub invariant-reading : goal.invariant-reading
