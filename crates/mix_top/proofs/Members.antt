@@ -1,42 +1,9 @@
--- What is in a list that an entry was added to, taken out of or filtered from, where no entry stands twice.
-use Rattle.std.proofs.Common.{◌≡◌, ℕ, Bool, true, false, cond, List, [], ◌∷◌, ◌++◌, ◌⊎◌, inl, inr, ap, ◌∙◌, sym, subst, arith}
-use Rattle.std.specs.List.{Contains, filter}
-use Rattle.std.proofs.lemmas.List.Elements.{Contains-append_left, Contains-append_right, Contains-push, Contains-push_cases, Contains-append_cases}
+-- What is in a list that an entry was added to or taken out of, where no entry stands twice.
+use Rattle.std.proofs.Common.{ℕ, List, [], ◌∷◌, ◌++◌, inl, inr, sym, subst}
+use Rattle.std.specs.List.{Contains}
+use Rattle.std.proofs.lemmas.List.Elements.{Contains-append_left, Contains-append_right, Contains-push_cases, Contains-append_cases}
+use Rattle.epoch_keys.proofs.Members.{none_in_empty, Contains-cons_cases, Contains-head, Contains-tail}
 use Rattle.mix_top.specs.Report.{NoneTwice}
-
--- nothing is in the empty list
-pub none_in_empty : {X : Type 0} (x : X) → Contains [] x → ⊥
-none_in_empty x found = absurd (omega (arith, found.1))
-
-pub Contains-cons_cases : {X : Type 0} (y : X) (ys : List X) (x : X) → Contains (y ∷ ys) x → (y ≡ x) ⊎ Contains ys x
-Contains-cons_cases y ys x found =
-    elim (Contains-append_cases (y ∷ []) ys x found) [
-      | inl first ↦ elim (Contains-push_cases [] y x first) [ inl none ↦ absurd (none_in_empty x none) | inr same ↦ inl same ]
-      | inr later ↦ inr later
-    ]
-
-pub Contains-head : {X : Type 0} (x : X) (xs : List X) → Contains (x ∷ xs) x
-Contains-head x xs = Contains-append_left (x ∷ []) xs x (Contains-push [] x)
-
-pub Contains-tail : {X : Type 0} (y : X) (ys : List X) (x : X) → Contains ys x → Contains (y ∷ ys) x
-Contains-tail y ys x found = Contains-append_right (y ∷ []) ys x found
-
--- what is in a list stays in it where its first entry may be left out but isn't the one
-kept_first : {X : Type 0} (y : X) (ys : List X) (x : X) (keeps : Bool) → (y ≡ x → keeps ≡ true) → (y ≡ x) ⊎ Contains ys x →
-    Contains (cond keeps (y ∷ ys) ys) x
-kept_first y ys x true says (inl same) = subst (λ z. Contains (y ∷ ys) z) same (Contains-head y ys)
-kept_first y ys x true says (inr later) = Contains-tail y ys x later
-kept_first y ys x false says (inl same) = let never : false ≡ true = says same in absurd (cc)
-kept_first y ys x false says (inr later) = later
-
--- what passes the test stays
-pub Contains-filter : {X : Type 0} (test : X → Bool) (xs : List X) (x : X) → Contains xs x → test x ≡ true → Contains (filter test xs) x
-Contains-filter test [] x found passes = absurd (none_in_empty x found)
-Contains-filter test (y ∷ ys) x found passes =
-    kept_first y (filter test ys) x (test y) (λ same. ap test same ∙ passes) (elim (Contains-cons_cases y ys x found) [
-      | inl same ↦ inl same
-      | inr later ↦ inr (Contains-filter test ys x later passes)
-    ])
 
 -- what is in the list with one entry taken out was in it
 pub Contains-without : {X : Type 0} (front : List X) (x : X) (back : List X) (y : X) → Contains (front ++ back) y → Contains (front ++ x ∷ back) y

@@ -7,7 +7,8 @@ use Rattle.std.proofs.lemmas.List.{map-append, take-append-drop}
 use Rattle.std.proofs.lemmas.Option.{slice_get_within, get_or_from_slice_get}
 use Rattle.std.proofs.lemmas.Bool.{cases_lt, ltb-true, le-leb}
 use Rattle.std.proofs.lemmas.List.Elements.{Contains-append_left, Contains-append_right, Contains-push, Contains-push_cases}
-use Rattle.mix_top.proofs.Members.{none_in_empty, Contains-filter, Contains-without, Contains-head, Contains-cons_cases, NoneTwice-push, NoneTwice-without}
+use Rattle.epoch_keys.proofs.Members.{none_in_empty, Contains-filter, Contains-head, Contains-cons_cases}
+use Rattle.mix_top.proofs.Members.{Contains-without, NoneTwice-push, NoneTwice-without}
 use Rattle.mix_top.specs.Book.{Book, Claims, raise, add, kept}
 use Rattle.epoch_keys.specs.Epochs.{least_live}
 use Rattle.mix_top.specs.Report.{handed, NoneTwice}
