@@ -4,3 +4,4 @@ pub mod Reading
 pub mod Suites
 pub mod WordStreams
 pub mod Writing
+pub mod XorLaws

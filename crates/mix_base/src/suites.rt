@@ -4,6 +4,7 @@ ghost use Rattle.std.specs.Prelude.{◌≡◌, ℕ, ◌<◌, Bool, List, length,
 ghost use Rattle.mix_base.specs.ByteLists.{xor_stream};
 ghost use Rattle.mix_base.specs.Suites.{KemScheme, SuiteMeaning};
 ghost use Rattle.mix_base.specs.WordStreams.{GoesOn};
+ghost use Rattle.mix_base.specs.XorLaws.{xor_stream-xor_stream};
 ghost use Rattle.mix_base.specs.declared.suites.HopKeys.{HopKeys};
 
 use crate::{Memory, Words};
@@ -35,6 +36,9 @@ pub trait Stream {
     /// Xors byte i of the buffer with the stream's byte of place i, whatever the buffer's length.
     fn xor(key: &[u8; 32], buf: &mut [u8])
         ensures { buf.new ≡ xor_stream (byte key.now) 0 buf.old };
+
+    /// A second xor with the same key undoes the first.
+    ghost undoes: { (key bytes : List ℕ) → xor_stream (byte key) 0 (xor_stream (byte key) 0 bytes) ≡ bytes } = { λ key bytes. xor_stream-xor_stream (byte key) 0 bytes };
 }
 
 /// A message authentication code.
@@ -45,6 +49,9 @@ pub trait Mac {
     /// The code of the message, 32 bytes.
     fn tag(key: &[u8; 32], message: &[u8]) -> [u8; 32]
         ensures { result ≡ code key.now message.now };
+
+    /// It has 32 bytes under every key of that length.
+    ghost code_length: { (key message : List ℕ) → length key ≡ 32 → length (code key message) ≡ 32 };
 }
 
 /// A derivation of a hop's keys.
@@ -78,6 +85,11 @@ pub trait Wide {
 
     /// Encryption undoes decryption.
     ghost encrypts: { (key block : List ℕ) → 32 < length block → encrypted key (decrypted key block) ≡ block };
+
+    /// Both keep the length of a block.
+    ghost encrypted_length: { (key block : List ℕ) → 32 < length block → length (encrypted key block) ≡ length block };
+
+    ghost decrypted_length: { (key block : List ℕ) → 32 < length block → length (decrypted key block) ≡ length block };
 }
 
 /// Why `Kem::pair` gave no pair.

@@ -1,5 +1,6 @@
+pub mod HashLaws
 pub mod Hashers
 pub mod Laboratory
+pub mod LaboratoryLaws
 pub mod Primitives
 pub mod WideLaws
-pub mod XorLaws

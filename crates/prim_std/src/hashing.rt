@@ -3,6 +3,7 @@
 ghost use Rattle.std.specs.Prelude.{◌≡◌, ℕ, ◌-◌, ◌≤◌, List, [], ◌++◌, length, replicate};
 ghost use Rattle.sha2.specs.Sha256.{sha256};
 ghost use Rattle.mix_base.specs.ByteLists.{xor};
+ghost use Rattle.prim_std.specs.HashLaws.{length-hmac};
 ghost use Rattle.prim_std.specs.Primitives.{hmac, key_block};
 
 use mix_base::{Mac, xor_into};
@@ -111,4 +112,6 @@ impl Mac for HmacMac {
     fn tag(key: &[u8; 32], message: &[u8]) -> [u8; 32] {
         hmac_sha256(key, message)
     }
+
+    ghost code_length = { λ key message _. length-hmac key message };
 }

@@ -1,6 +1,7 @@
 // The laboratory mechanism and suite, for tests and rehearsals. The mechanism has no secrecy at all: who has a
 // public key can open what was made for it. Its calls never fail and take no memory.
 ghost use Rattle.std.specs.Prelude.{◌≡◌, ℕ, ◌+◌, ◌*◌, ◌∷◌, List, length, true, Some, None, IfOk, OnOk, IsOk, IsTrue, if◌then◌else◌, refl};
+ghost use Rattle.mix_base.specs.Suites.{Agrees};
 ghost use Rattle.mix_base.specs.WordStreams.{GoesOn};
 ghost use Rattle.prim_std.specs.Primitives.{hmac, word_bytes, first_words};
 ghost use Rattle.prim_std.specs.Laboratory.{lab_scheme, lab_meaning};
@@ -37,7 +38,7 @@ impl Kem for LabKem {
     const LEAN: bool = true;
 
     /// Both keys are the next eight words. Never fails.
-    #[tactic(auto, unfolding(crate::specs::Laboratory::lab_key))]
+    #[tactic(auto, using(crate::specs::LaboratoryLaws::lab_agrees), unfolding(crate::specs::Laboratory::lab_key))]
     fn pair<W: Words>(
         _alloc: Global,
         words: &mut W,
@@ -48,6 +49,8 @@ impl Kem for LabKem {
         requires secret_length { length sk.old ≡ 32 }
         ensures ok { lab_scheme.pair (W.to_come words.old) ≡ Some (pk.new, sk.new) }
         ensures never_refused { IsOk result }
+        // What is encapsulated to the public key is opened by the secret one.
+        ensures agrees { Agrees lab_scheme pk.new sk.new }
         ensures words { GoesOn (W.to_come words.old) (W.to_come words.new) }
         ensures eight_words { (place : ℕ) → W.to_come words.new place ≡ W.to_come words.old (8 + place) }
     {

@@ -1,8 +1,8 @@
 // LIONESS (Anderson and Biham, 1996): a cipher whose block is the whole message, in four rounds over ChaCha20
-// and HMAC-SHA-256. Decryption and encryption undo each other.
+// and HMAC-SHA-256. Decryption and encryption undo each other, and keep the length of a block.
 ghost use Rattle.std.specs.Prelude.{◌≡◌, ℕ, List, length};
 ghost use Rattle.prim_std.specs.Primitives.{stream_round, hash_round, lioness_encrypted, lioness_decrypted};
-ghost use Rattle.prim_std.specs.WideLaws.{lioness-decrypts, lioness-encrypts};
+ghost use Rattle.prim_std.specs.WideLaws.{lioness-decrypts, lioness-encrypts, lioness-encrypted-length, lioness-decrypted-length};
 
 use crate::{chacha_xor, hmac_sha256};
 use mix_base::{Wide, xor_into};
@@ -37,6 +37,10 @@ impl Wide for Lioness {
     ghost decrypts = { lioness-decrypts };
 
     ghost encrypts = { lioness-encrypts };
+
+    ghost encrypted_length = { lioness-encrypted-length };
+
+    ghost decrypted_length = { lioness-decrypted-length };
 }
 
 // Xors the right part with the stream whose key is the left part xored with the round's key.

@@ -76,6 +76,8 @@ impl Mac for Plain {
     fn tag(key: &[u8; 32], _message: &[u8]) -> [u8; 32] {
         *key
     }
+
+    ghost code_length = { λ _ _ long. long };
 }
 
 impl Kdf for Plain {
@@ -108,6 +110,10 @@ impl Wide for Plain {
     ghost decrypts = { λ _ _ _. refl };
 
     ghost encrypts = { λ _ _ _. refl };
+
+    ghost encrypted_length = { λ _ _ _. refl };
+
+    ghost decrypted_length = { λ _ _ _. refl };
 }
 
 impl Suite for Plain {

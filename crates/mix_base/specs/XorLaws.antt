@@ -1,6 +1,6 @@
 -- Xor twice is no change, and a xor keeps the length.
-use Rattle.std.specs.Prelude.{◌≡◌, ℕ, ◌+◌, List, [], ◌∷◌, length, bit_xor}
-use Rattle.std.proofs.Common.{refl, ap, ◌∙◌}
+use Rattle.std.specs.Prelude.{◌≡◌, ℕ, suc, ◌+◌, List, [], ◌∷◌, ◌++◌, length, bit_xor}
+use Rattle.std.proofs.Common.{refl, ap, ◌∙◌, add-zero, arith}
 use Rattle.std.specs.Int.Bits.{xor_assoc, xor_self, xor_zero_r}
 use Rattle.mix_base.specs.ByteLists.{xor, xor_stream}
 
@@ -24,3 +24,10 @@ xor_stream-xor_stream stream place (x ∷ xs) = rw (bit_xor-bit_xor x (stream pl
 pub length-xor_stream : (stream : ℕ → ℕ) (place : ℕ) (xs : List ℕ) → length (xor_stream stream place xs) ≡ length xs
 length-xor_stream stream place [] = refl
 length-xor_stream stream place (x ∷ xs) = rw (length-xor_stream stream (place + 1) xs) refl
+
+-- a list of two parts, each with the part of the stream behind its place
+pub xor_stream-append : (stream : ℕ → ℕ) (place : ℕ) (xs ys : List ℕ) → xor_stream stream place (xs ++ ys) ≡ xor_stream stream place xs ++ xor_stream stream (place + length xs) ys
+xor_stream-append stream place [] ys = rw (add-zero place) refl
+xor_stream-append stream place (x ∷ xs) ys =
+    let further : place + 1 + length xs ≡ place + suc (length xs) = omega arith in
+    rw (xor_stream-append stream (place + 1) xs ys, further) refl
