@@ -1,0 +1,5 @@
+pub mod Counting
+pub mod Fillers
+pub mod Layers
+pub mod PathLemmas
+pub mod SealedPaths

@@ -1,0 +1,5 @@
+pub mod Drawing
+pub mod HeaderLaws
+pub mod Making
+pub mod NestedPath
+pub mod Sealing

@@ -1,0 +1,20 @@
+// Packets made for a path of hops: the delays that a maker draws, and the nested path that a packet is made for.
+#![tactic(auto)]
+
+mod drawing;
+mod fault;
+mod header;
+mod packet;
+mod path;
+mod payload;
+mod routing;
+mod sealing;
+#[cfg(test)]
+mod tests;
+
+pub use drawing::{Draw, draw_delay};
+pub use fault::MakeFault;
+pub use header::{MadeHeader, make_header};
+pub use packet::make_packet;
+pub use path::{HopSpec, SealedHop};
+pub use payload::{encrypt_along, spell_payload};
