@@ -1,0 +1,3 @@
+pub mod Blocks
+pub mod Replies
+pub mod WayBack
