@@ -1,4 +1,5 @@
 pub mod Lines
 pub mod Readers
 pub mod Statuses
+pub mod WordForms
 pub mod Words

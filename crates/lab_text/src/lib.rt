@@ -6,8 +6,13 @@ mod lines;
 mod statuses;
 #[cfg(test)]
 mod tests;
+mod word_forms;
 mod words;
 
 pub use lines::{LineFault, LineReader};
 pub use statuses::{Status, code, write_status};
+pub use word_forms::{
+    is_skipped, next_bytes, next_number, one_word, read_suite, read_surb, sized_bytes, whole_bytes,
+    without_words,
+};
 pub use words::{next_word, read_bytes, read_number, read_seed};

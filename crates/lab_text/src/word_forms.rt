@@ -1,0 +1,108 @@
+// What the words of a line say: a number or bytes, each as the first word or as the only one. Each reader answers
+// exactly what its definition has.
+ghost use Rattle.std.specs.Prelude.{◌≡◌, ◌≤◌, length, IfOk, IfSome, option_map, option_copied};
+ghost use Rattle.lab_text.specs.Words.{words_of};
+ghost use Rattle.lab_text.specs.WordForms.{alone, bytes_in, first_bytes, first_number, only_bytes, only_word, says_nothing, suite_of, surb_of};
+
+use crate::{next_word, read_bytes, read_number};
+use hex::FromHex;
+use mix_base::{Bytes, Memory};
+use std::alloc::Global;
+
+/// Whether a line says nothing: it has no word, or its first begins with `#`.
+pub fn is_skipped(line: &[u8]) -> bool
+    ensures { result ≡ says_nothing (words_of line.now) }
+{
+    match next_word(line) {
+        None => true,
+        Some((first, _)) => first[0] == b'#',
+    }
+}
+
+/// The only word.
+pub fn one_word(rest: &[u8]) -> Option<&[u8]>
+    ensures { option_copied result ≡ only_word (words_of rest.now) }
+{
+    let (word, others) = next_word(rest)?;
+    match next_word(others) {
+        None => Some(word),
+        Some(_) => None,
+    }
+}
+
+/// A number in a range as the first word, and what stands behind it.
+pub fn next_number(rest: &[u8], low: u64, high: u64) -> Option<(u64, &[u8])>
+    ensures exact { option_map (λ x. (x.0, words_of x.1.now)) result ≡ first_number low high (words_of rest.now) }
+    ensures in_range { IfSome result (λ x. (low ≤ x.0) × (x.0 ≤ high)) }
+{
+    let (word, others) = next_word(rest)?;
+    let value = read_number(word, low, high)?;
+    Some((value, others))
+}
+
+/// A value behind which no word stands.
+pub fn without_words<T: Drop>(value: T, rest: &[u8]) -> Option<T>
+    ensures { result ≡ alone value (words_of rest.now) }
+{
+    match next_word(rest) {
+        None => Some(value),
+        Some(_) => None,
+    }
+}
+
+/// Bytes of a length as the first word, and what stands behind it.
+pub fn next_bytes(alloc: Global, rest: &[u8], size: usize) -> Result<Option<(Bytes, &[u8])>, Memory>
+    ensures exact { IfOk result (λ found. option_map (λ x. (x.0, words_of x.1.now)) found ≡ first_bytes size (words_of rest.now)) }
+    ensures length { IfOk result (λ found. IfSome found (λ x. length x.0 ≡ size)) }
+{
+    let Some((word, others)) = next_word(rest) else {
+        return Ok(None);
+    };
+    match sized_bytes(alloc, word, size) {
+        Ok(Some(bytes)) => Ok(Some((bytes, others))),
+        Ok(None) => Ok(None),
+        Err(Memory) => Err(Memory),
+    }
+}
+
+/// The bytes that a word spells, where they have this length.
+pub fn sized_bytes(alloc: Global, word: &[u8], size: usize) -> Result<Option<Bytes>, Memory>
+    ensures exact { IfOk result (λ bytes. bytes ≡ bytes_in size word.now) }
+    ensures length { IfOk result (λ bytes. IfSome bytes (λ b. length b ≡ size)) }
+{
+    match read_bytes(alloc, word)? {
+        Some(bytes) if bytes.len() == size => Ok(Some(Bytes::of(bytes))),
+        _ => Ok(None),
+    }
+}
+
+/// Bytes of a length as the only word.
+pub fn whole_bytes(alloc: Global, rest: &[u8], size: usize) -> Result<Option<Bytes>, Memory>
+    ensures exact { IfOk result (λ bytes. bytes ≡ only_bytes size (words_of rest.now)) }
+    ensures length { IfOk result (λ bytes. IfSome bytes (λ b. length b ≡ size)) }
+{
+    match one_word(rest) {
+        Some(word) => sized_bytes(alloc, word, size),
+        None => Ok(None),
+    }
+}
+
+/// The 16 bytes of a reply's id.
+pub fn read_surb(word: &[u8]) -> Option<[u8; 16]>
+    ensures { result ≡ surb_of word.now }
+{
+    <[u8; 16] as FromHex>::from_hex(word).ok()
+}
+
+/// Whether the suite is `ntru` and not `lab`.
+pub fn read_suite(word: &[u8]) -> Option<bool>
+    ensures { result ≡ suite_of word.now }
+{
+    if word == b"ntru".as_slice() {
+        Some(true)
+    } else if word == b"lab".as_slice() {
+        Some(false)
+    } else {
+        None
+    }
+}
