@@ -2,7 +2,8 @@
 use Rattle.std.proofs.Common.{◌≡◌, ℕ, ◌∷◌, ◌++◌, List, refl}
 use Rattle.sphinx_unwrap.specs.declared.outcome.Out.{Out}
 use Rattle.sphinx_unwrap.specs.declared.outcome.Out.TheVariants.{Forward, Deliver, Reply, Damaged}
-use Rattle.mix_top.specs.Report.{line_of, words_behind_tag}
+use Rattle.lab_text.specs.WordForms.{line_of}
+use Rattle.mix_top.specs.Report.{words_behind_tag}
 
 -- four words in front of those behind the tag, of which there is always one
 pub line_of_handed : (kind number epoch tag : List ℕ) (out : Out) → line_of (kind ∷ number ∷ epoch ∷ tag ∷ words_behind_tag out)

@@ -1,8 +1,9 @@
 -- A script as what it asks for: how the node is set up, the events with the numbers of their lines, and how it ends.
 use Rattle.std.specs.Prelude.{ℕ, ◌+◌, Bool, ◌==◌, ◌&&◌, not, if◌then◌else◌, List, [], ◌∷◌, Option, Some, None}
 use Rattle.lab_text.specs.Lines.{ScriptLine, Text, TooLong, lines_from}
-use Rattle.mix_top.specs.Script.{event_of, node_of, says_nothing}
+use Rattle.mix_top.specs.Script.{event_of, node_of}
 use Rattle.lab_text.specs.Words.{words_of}
+use Rattle.lab_text.specs.WordForms.{says_nothing}
 use Rattle.mix_top.specs.declared.items.Setup.{Setup}
 use Rattle.mix_top.specs.declared.script.Event.{Event}
 use Rattle.mix_top.specs.declared.script.NodeLine.{NodeLine}

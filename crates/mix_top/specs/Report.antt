@@ -6,15 +6,10 @@ use Rattle.sphinx_unwrap.specs.declared.outcome.Out.{Out}
 use Rattle.sphinx_unwrap.specs.declared.outcome.Out.TheVariants.{Forward, Deliver, Reply, Damaged}
 use Rattle.sphinx_unwrap.specs.declared.fault.Refused.{Refused}
 use Rattle.sphinx_unwrap.specs.declared.fault.Refused.TheVariants.{Length, Version, Sealed, Commands}
+use Rattle.lab_text.specs.WordForms.{line_of}
 use Rattle.mix_top.specs.declared.items.Item.{Item}
 use Rattle.mix_top.specs.declared.report.ReportLine.{ReportLine}
 use Rattle.mix_top.specs.declared.report.ReportLine.TheVariants.{Refuse, Idle, Busy, Retired, Spent, Empty, Handed, NoneDue}
-
--- words joined by single spaces, and ended by a line feed
-abbrev pub line_of : List (List ℕ) → List ℕ
-line_of [] = 10 ∷ []
-line_of (word ∷ []) = word ++ 10 ∷ []
-line_of (word ∷ other ∷ others) = word ++ 32 ∷ line_of (other ∷ others)
 
 -- the word of a refusal
 abbrev pub why_of : Refused → List ℕ

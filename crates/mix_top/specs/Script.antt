@@ -2,17 +2,12 @@
 use Rattle.std.specs.Prelude.{◌≡◌, ℕ, ◌-◌, ◌/◌, ◌^◌, ◌<◌, ◌≤◌, Bool, true, false, ◌==◌, ◌||◌, if◌then◌else◌, List, [], ◌∷◌, slice_index, Option, Some, None, Result, Ok, Err, codes}
 use Rattle.std.specs.Str.{bytes_eq}
 use Rattle.lab_text.specs.Words.{◌>>=◌, words_of, number_in, bytes_of, seed_of}
+use Rattle.lab_text.specs.WordForms.{first_number, first_of, is_comment, only_word, suite_of}
 use Rattle.mix_top.specs.declared.script.Event.{Event}
 use Rattle.mix_top.specs.declared.script.Event.TheVariants.{Recv, Peel, Claim, Send, Skip, Later}
 use Rattle.mix_top.specs.declared.script.NodeLine.{NodeLine}
 use Rattle.lab_text.specs.declared.lines.LineFault.{LineFault}
 use Rattle.lab_text.specs.declared.lines.LineFault.TheVariants.{BadLine, ReadFault, Memory}
-
--- the one word there is
-abbrev pub only_word : List (List ℕ) → Option (List ℕ)
-only_word [] = None
-only_word (word ∷ []) = Some word
-only_word (word ∷ other ∷ words) = None
 
 -- the two words there are
 abbrev pub both_words : List (List ℕ) → Option (List ℕ × List ℕ)
@@ -55,10 +50,6 @@ send_of words = do
   moment ← only_word words >>= moment_of
   Some (Send moment)
 
--- whether a first word begins with # (35)
-abbrev pub is_comment : List ℕ → Bool
-is_comment word = slice_index word 0 == 35
-
 -- the first words of lines that aren't built yet
 abbrev pub is_later : List ℕ → Bool
 is_later word = bytes_eq word (codes "rotate") || bytes_eq word (codes "arm") || bytes_eq word (codes "crash")
@@ -87,30 +78,6 @@ said_in (first ∷ words) = said_by first words
 -- the event of a line, in a node of so many shards; nothing that is built yet names a shard
 abbrev pub event_of : ℕ → List ℕ → Option Event
 event_of shards line = said_in (words_of line)
-
--- whether a line says nothing: it has no word, or its first begins with #
-abbrev pub says_nothing : List (List ℕ) → Bool
-says_nothing [] = true
-says_nothing (first ∷ words) = is_comment first
-
--- whether the suite is `ntru` and not `lab`
-abbrev pub suite_of : List ℕ → Option Bool
-suite_of word =
-    if bytes_eq word (codes "ntru") then Some true
-    else if bytes_eq word (codes "lab") then Some false
-    else None
-
--- the first word and those behind it
-abbrev pub first_of : List (List ℕ) → Option (List ℕ × List (List ℕ))
-first_of [] = None
-first_of (word ∷ words) = Some (word, words)
-
--- a number in a range as the first word, and the words behind it
-abbrev pub first_number : ℕ → ℕ → List (List ℕ) → Option (ℕ × List (List ℕ))
-first_number low high words = do
-  first ← first_of words
-  value ← number_in low high first.0
-  Some (value, first.1)
 
 -- what the words of a node line say behind the first: suite, hops, body, shards, epoch, grace, seed
 abbrev pub node_in : List (List ℕ) → Option NodeLine

@@ -1,7 +1,9 @@
 // The program's commands over any source and sink. The command `drive` carries the headline: whatever the script,
-// its report hands on at most one packet for each epoch key and replay tag.
-ghost use Rattle.std.specs.Prelude.{◌≡◌, ◌≢◌, ◌↔◌, false, map, string_bytes};
+// its report hands on at most one packet for each epoch key and replay tag. The other commands are the tools'.
+ghost use Rattle.std.specs.Prelude.{◌≡◌, ◌≢◌, ◌↔◌, None, IfSome, false, true, map, string_bytes};
 ghost use Rattle.mix_base.specs.Faults.{Rose};
+ghost use Rattle.mix_tools.specs.Answers.{AnswersCommand, EndsInput};
+ghost use Rattle.mix_tools.specs.Commands.{command_of};
 ghost use Rattle.mix_top.specs.Answers.{AnswersScript};
 ghost use Rattle.mix_top.specs.Commands.{names_drive};
 ghost use Rattle.lab_text.specs.Readers.{ReachesEnd};
@@ -9,31 +11,46 @@ ghost use Rattle.lab_text.specs.Readers.{ReachesEnd};
 use crate::drive::drive;
 use lab_text::Status;
 use mix_base::{Sink, Source};
+use mix_tools::tool;
 use std::alloc::Global;
 
-/// Runs the command that the words name: `drive` reads a script from the source and writes its report to the sink.
-/// `Words` comes exactly where the words are no form of a command, and then source and sink are as they were.
+/// Runs the command that the words name: `drive` reads a script from the source and writes its report to the sink, and
+/// the tools' commands are those of `tool`. `Words` comes exactly where the words are no form of a command, and then
+/// source and sink are as they were.
 pub fn mix_command<I: Source, O: Sink>(
     alloc: Global,
     words: &[String],
     source: &mut I,
     sink: &mut O,
 ) -> Status
-    ensures forms { (result ≡ Status.Words) ↔ (names_drive (map string_bytes words.now) ≡ false) }
+    ensures forms { (result ≡ Status.Words) ↔
+        ((names_drive (map string_bytes words.now) ≡ false) × (command_of (map string_bytes words.now) ≡ None)) }
     ensures untouched { result ≡ Status.Words → (source.new ≡ source.old) × (sink.new ≡ sink.old) }
 
-    // Where the source tells the script and the sink what it is given, the report is the one that is owed.
-    ensures report { result ≢ Status.Words → AnswersScript (I.left source.old) (O.given sink.old) (O.given sink.new) result }
-    ensures end { result ≡ Status.Done → ReachesEnd (I.left source.old) (I.left source.new) }
+    // `drive`: where the source tells the script and the sink what it is given, the report is the one that is owed.
+    ensures report { names_drive (map string_bytes words.now) ≡ true →
+        AnswersScript (I.left source.old) (O.given sink.old) (O.given sink.new) result }
+    ensures end { names_drive (map string_bytes words.now) ≡ true → result ≡ Status.Done →
+        ReachesEnd (I.left source.old) (I.left source.new) }
+
+    // The tools: where they are told, just the text that is owed is given, and none before the input's end.
+    ensures tool_text { IfSome (command_of (map string_bytes words.now)) (λ command.
+        AnswersCommand command (I.left source.old) (O.given sink.old) (O.given sink.new) result) }
+    ensures tool_end { result ≡ Status.Done → IfSome (command_of (map string_bytes words.now)) (λ command.
+        EndsInput command (I.left source.old) (I.left source.new)) }
+    ensures tool_given_at_end { O.given sink.new ≢ O.given sink.old → IfSome (command_of (map string_bytes words.now)) (λ command.
+        EndsInput command (I.left source.old) (I.left source.new)) }
 
     // A fault comes only where the source or the sink has failed in this call.
     ensures read_fault { result ≡ Status.ReadFault → Rose (I.faults source.old) (I.faults source.new) }
     ensures write_fault { result ≡ Status.WriteFault → Rose (O.faults sink.old) (O.faults sink.new) }
 {
     if is_drive(words) {
-        drive(alloc, source, sink)
-    } else {
-        Status::Words
+        return drive(alloc, source, sink);
+    }
+    match tool(alloc, words, source, sink) {
+        Some(status) => status,
+        None => Status::Words,
     }
 }
 

@@ -15,4 +15,4 @@ mod script;
 mod tests;
 
 pub use command::mix_command;
-pub use script::{Event, NodeLine, is_skipped, read_event, read_node};
+pub use script::{Event, NodeLine, read_event, read_node};

@@ -1,7 +1,8 @@
 // The lines of the report, and their text.
 ghost use Rattle.std.specs.Prelude.{◌≡◌, [], ◌∷◌, IfOk, string_bytes};
 ghost use Rattle.hex.specs.Hex.{encode_lower};
-ghost use Rattle.mix_top.specs.Report.{line_text, why_of, kind_of, words_behind_tag, block_word, line_of, handed_words};
+ghost use Rattle.lab_text.specs.WordForms.{line_of};
+ghost use Rattle.mix_top.specs.Report.{line_text, why_of, kind_of, words_behind_tag, block_word, handed_words};
 
 use crate::items::Item;
 use mix_base::{Bytes, Memory};

@@ -1,9 +1,12 @@
 // The lines of a script of `drive`: what each says. A line is read exactly where it is in the grammar.
-ghost use Rattle.std.specs.Prelude.{◌≡◌, IfOk, option_map, option_copied, option_and_then, ◌≤◌, ◌<◌, ◌^◌, IfSome};
+ghost use Rattle.std.specs.Prelude.{◌≡◌, IfOk, option_map, option_and_then, ◌<◌, ◌^◌, IfSome};
 ghost use Rattle.lab_text.specs.Words.{words_of};
-ghost use Rattle.mix_top.specs.Script.{Reads, IsEventInRange, IsNodeInRange, event_of, node_of, node_in, says_nothing, suite_of, said_in, without_packet, recv_of, worker_of, moment_of, only_word, both_words, first_number, is_later};
+ghost use Rattle.mix_top.specs.Script.{Reads, IsEventInRange, IsNodeInRange, event_of, node_of, node_in, said_in, without_packet, recv_of, worker_of, moment_of, both_words, is_later};
+ghost use Rattle.lab_text.specs.WordForms.{only_word};
 
-use lab_text::{LineFault, next_word, read_bytes, read_number, read_seed};
+use lab_text::{
+    LineFault, next_number, next_word, one_word, read_bytes, read_number, read_seed, read_suite,
+};
 use mix_base::{Bytes, Memory};
 use std::alloc::Global;
 
@@ -46,16 +49,6 @@ pub struct NodeLine {
     /// At most a quarter of an epoch.
     pub grace: u64,
     pub seed: [u8; 32],
-}
-
-/// Whether a line says nothing: it has no word, or its first begins with `#`.
-pub fn is_skipped(line: &[u8]) -> bool
-    ensures { result ≡ says_nothing (words_of line.now) }
-{
-    match next_word(line) {
-        None => true,
-        Some((first, _)) => first[0] == b'#',
-    }
 }
 
 /// What a line says behind the node line, in a node of so many shards; `number` is the line's.
@@ -165,17 +158,6 @@ fn names_later(first: &[u8]) -> bool
     first == b"rotate".as_slice() || first == b"arm".as_slice() || first == b"crash".as_slice()
 }
 
-// The only word.
-fn one_word(rest: &[u8]) -> Option<&[u8]>
-    ensures { option_copied result ≡ only_word (words_of rest.now) }
-{
-    let (word, others) = next_word(rest)?;
-    match next_word(others) {
-        None => Some(word),
-        Some(_) => None,
-    }
-}
-
 // The only two words.
 fn two_words(rest: &[u8]) -> Option<(&[u8], &[u8])>
     ensures { option_map (λ both. (both.0.now, both.1.now)) result ≡ both_words (words_of rest.now) }
@@ -183,28 +165,6 @@ fn two_words(rest: &[u8]) -> Option<(&[u8], &[u8])>
     let (first, others) = next_word(rest)?;
     let second = one_word(others)?;
     Some((first, second))
-}
-
-// A number in a range as the first word, and what stands behind it.
-fn next_number(rest: &[u8], low: u64, high: u64) -> Option<(u64, &[u8])>
-    ensures exact { option_map (λ x. (x.0, words_of x.1.now)) result ≡ first_number low high (words_of rest.now) }
-    ensures in_range { IfSome result (λ x. (low ≤ x.0) × (x.0 ≤ high)) }
-{
-    let (word, others) = next_word(rest)?;
-    let value = read_number(word, low, high)?;
-    Some((value, others))
-}
-
-fn suite(word: &[u8]) -> Option<bool>
-    ensures { result ≡ suite_of word.now }
-{
-    if word == b"ntru".as_slice() {
-        Some(true)
-    } else if word == b"lab".as_slice() {
-        Some(false)
-    } else {
-        None
-    }
 }
 
 fn node(line: &[u8]) -> Option<NodeLine>
@@ -225,7 +185,7 @@ fn node_fields(rest: &[u8]) -> Option<NodeLine>
     ensures in_range { IfSome result IsNodeInRange }
 {
     let (name, rest) = next_word(rest)?;
-    let ntru = suite(name)?;
+    let ntru = read_suite(name)?;
     let (hops, rest) = next_number(rest, 1, 5)?;
     let (body, rest) = next_number(rest, 1, 4096)?;
     let (shards, rest) = next_number(rest, 1, 16)?;

@@ -1,6 +1,6 @@
 // What no clause says: that the lines of a script come out as they are meant.
-use crate::{Event, NodeLine, is_skipped, read_event, read_node};
-use lab_text::LineFault;
+use crate::{Event, NodeLine, read_event, read_node};
+use lab_text::{LineFault, is_skipped};
 use std::process::Abort;
 use std::test::Fail;
 

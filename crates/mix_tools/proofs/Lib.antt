@@ -1,0 +1,3 @@
+pub mod AnsweredRequests
+pub mod BlockKeyBytes
+pub mod MadePackets

@@ -1,0 +1,28 @@
+-- The words of the commands: which command they name, if any.
+use Rattle.std.specs.Prelude.{ℕ, ◌-◌, ◌^◌, if◌then◌else◌, List, [], ◌∷◌, Option, Some, None, codes}
+use Rattle.std.specs.Str.{bytes_eq}
+use Rattle.lab_text.specs.Words.{◌>>=◌, number_in, seed_of}
+use Rattle.lab_text.specs.WordForms.{alone}
+use Rattle.mix_tools.specs.declared.commands.Command.{Command}
+use Rattle.mix_tools.specs.declared.commands.Command.TheVariants.{Keys, Make, Answer, Open}
+
+-- keys lab SEED EPOCH: what stands behind the first word; an epoch is below 2 ^ 60
+abbrev pub keys_in : List (List ℕ) → Option Command
+keys_in [] = None
+keys_in (suite ∷ []) = None
+keys_in (suite ∷ seed ∷ []) = None
+keys_in (suite ∷ seed ∷ epoch ∷ []) = if bytes_eq suite (codes "lab") then (do
+  bytes ← seed_of seed
+  number ← number_in 0 (2 ^ 60 - 1) epoch
+  Some (Keys bytes number)) else None
+keys_in (suite ∷ seed ∷ epoch ∷ other ∷ words) = None
+
+-- the command that the words name
+abbrev pub command_of : List (List ℕ) → Option Command
+command_of [] = None
+command_of (first ∷ words) =
+    if bytes_eq first (codes "keys") then keys_in words
+    else if bytes_eq first (codes "make") then alone Make words
+    else if bytes_eq first (codes "answer") then alone Answer words
+    else if bytes_eq first (codes "open") then alone Open words
+    else None

@@ -1,0 +1,11 @@
+pub mod Answers
+pub mod Commands
+pub mod Drafts
+pub mod FirstLines
+pub mod MakeLines
+pub mod Outcomes
+pub mod Packets
+pub mod Reading
+pub mod Replies
+pub mod ReplyLines
+pub mod Texts

@@ -1,0 +1,125 @@
+-- The lines of a request to `make`: what each says behind what the lines before it said.
+use Rattle.std.specs.Prelude.{ℕ, ◌-◌, ◌^◌, nat_lt, if◌then◌else◌, List, [], ◌∷◌, ◌++◌, length, Option, Some, None, option_map, codes}
+use Rattle.std.specs.Str.{bytes_eq}
+use Rattle.packet_form.specs.Commands.{longest_delay}
+use Rattle.packet_form.specs.Geometry.{Sizes, block}
+use Rattle.prim_std.specs.Laboratory.{lab_scheme}
+use Rattle.sphinx_make.specs.declared.drawing.Draw.{Draw}
+use Rattle.lab_text.specs.Words.{◌>>=◌, number_in, seed_of}
+use Rattle.mix_tools.specs.FirstLines.{built, geometry_of, seed_line}
+use Rattle.mix_tools.specs.Outcomes.{Outcome, Outside}
+use Rattle.lab_text.specs.WordForms.{bytes_in, first_bytes, first_number, first_of, only_word, surb_of}
+use Rattle.mix_tools.specs.declared.requests.BlockRequest.{BlockRequest}
+use Rattle.mix_tools.specs.declared.requests.Delay.{Delay}
+use Rattle.mix_tools.specs.declared.requests.Delay.TheVariants.{Unsaid, Given, Drawn}
+use Rattle.mix_tools.specs.declared.requests.Draft.{Draft}
+use Rattle.mix_tools.specs.declared.requests.Draft.TheVariants.{Path, Whole}
+use Rattle.mix_tools.specs.declared.requests.Head.{Head}
+use Rattle.mix_tools.specs.declared.requests.Hop.{Hop}
+use Rattle.mix_tools.specs.declared.requests.PacketRequest.{PacketRequest}
+use Rattle.mix_tools.specs.declared.requests.Product.{Product}
+use Rattle.mix_tools.specs.declared.requests.Product.TheVariants as products
+use Rattle.mix_tools.specs.declared.requests.Request.TheVariants as requests
+use Rattle.mix_tools.specs.declared.requests.SeedLine.{SeedLine}
+
+-- ---- packet SUITE HOPS BODY SEED, block SUITE HOPS BODY SEED
+
+abbrev pub head_of : SeedLine → Head
+head_of line = record { geometry = geometry_of line.sizes; seed = line.seed }
+
+-- a path that has no hop yet
+abbrev pub begun : Product → ℕ → Option SeedLine → Outcome Draft
+begun product number None = Outside number
+begun product number (Some line) = built number line.sizes (Path product (head_of line) None [])
+
+-- the first line, by its first word
+abbrev pub make_line : ℕ → List ℕ → List (List ℕ) → Outcome Draft
+make_line number first words =
+    if bytes_eq first (codes "packet") then begun products.Packet number (seed_line words)
+    else if bytes_eq first (codes "block") then begun products.Block number (seed_line words)
+    else Outside number
+
+-- ---- draw THRESHOLD UNIT CAP
+
+-- what stands behind the first word
+abbrev pub draw_in : List (List ℕ) → Option Draw
+draw_in words = do
+  threshold ← first_number 0 (2 ^ 32 - 1) words
+  unit ← first_number 1 60000 threshold.1
+  word ← only_word unit.1
+  cap ← number_in 0 longest_delay word
+  Some (record { threshold = threshold.0; unit = unit.0; cap = cap })
+
+-- once, before the first hop
+abbrev pub draw_line : Product → Head → Option Draw → List Hop → List (List ℕ) → Option Draft
+draw_line product head None [] words = option_map (λ draw. Path product head (Some draw) []) (draw_in words)
+draw_line product head (Some earlier) [] words = None
+draw_line product head draw (hop ∷ hops) words = None
+
+-- ---- hop ID KEY DELAY
+
+-- a dash, `draw` behind a draw line, or milliseconds
+abbrev pub delay_in : Option Draw → List ℕ → Option Delay
+delay_in draw word =
+    if bytes_eq word (codes "-") then Some Unsaid
+    else if bytes_eq word (codes "draw") then option_map Drawn draw
+    else option_map Given (number_in 0 longest_delay word)
+
+-- what stands behind the first word; every key of the laboratory suite's length decodes
+abbrev pub hop_in : Option Draw → List (List ℕ) → Option Hop
+hop_in draw words = do
+  first ← first_of words
+  id ← seed_of first.0
+  key ← first_bytes lab_scheme.public_key first.1
+  word ← only_word key.1
+  delay ← delay_in draw word
+  Some (record { id = id; key = key.0; delay = delay })
+
+-- as many as the geometry has hops
+abbrev pub hop_line : Product → Head → Option Draw → List Hop → List (List ℕ) → Option Draft
+hop_line product head draw hops words =
+    if nat_lt (length hops) head.geometry.hops then option_map (λ hop. Path product head draw (hops ++ hop ∷ [])) (hop_in draw words) else None
+
+-- ---- to RECIPIENT BODY [BLOCK], to RECIPIENT SURBID
+
+-- the words of a reply block: none, or one with the geometry's bytes
+abbrev pub block_in : Sizes → List (List ℕ) → Option (Option (List ℕ))
+block_in sizes [] = Some None
+block_in sizes (word ∷ []) = option_map Some (bytes_in (block sizes) word)
+block_in sizes (word ∷ other ∷ words) = None
+
+-- what stands behind the first word for a packet
+abbrev pub packet_in : Head → List Hop → List (List ℕ) → Option PacketRequest
+packet_in head hops words = do
+  first ← first_of words
+  recipient ← seed_of first.0
+  body ← first_bytes head.geometry.body first.1
+  reply_block ← block_in head.geometry body.1
+  Some (record { head = head; hops = hops; recipient = recipient; body = body.0; block = reply_block })
+
+-- and for a block
+abbrev pub reply_in : Head → List Hop → List (List ℕ) → Option BlockRequest
+reply_in head hops words = do
+  first ← first_of words
+  recipient ← seed_of first.0
+  word ← only_word first.1
+  surb ← surb_of word
+  Some (record { head = head; hops = hops; recipient = recipient; surb = surb })
+
+abbrev pub ended_path : Product → Head → List Hop → List (List ℕ) → Option Draft
+ended_path products.Packet head hops words = option_map (λ packet. Whole (requests.Packet packet)) (packet_in head hops words)
+ended_path products.Block head hops words = option_map (λ reply_block. Whole (requests.Block reply_block)) (reply_in head hops words)
+
+-- behind one hop at least
+abbrev pub to_line : Product → Head → List Hop → List (List ℕ) → Option Draft
+to_line product head [] words = None
+to_line product head (hop ∷ hops) words = ended_path product head (hop ∷ hops) words
+
+-- ---- a line behind the first, by its first word
+
+abbrev pub path_line : Product → Head → Option Draw → List Hop → List ℕ → List (List ℕ) → Option Draft
+path_line product head draw hops first words =
+    if bytes_eq first (codes "draw") then draw_line product head draw hops words
+    else if bytes_eq first (codes "hop") then hop_line product head draw hops words
+    else if bytes_eq first (codes "to") then to_line product head hops words
+    else None

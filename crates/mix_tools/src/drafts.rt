@@ -1,0 +1,92 @@
+// What a draft becomes with one line more: a line is taken exactly where it is in the grammar behind those before it.
+ghost use Rattle.std.specs.Prelude.{◌≡◌, Option, IfErr, IfOk, IfSome, IsErrOf};
+ghost use Rattle.lab_text.specs.Words.{words_of};
+ghost use Rattle.mix_tools.specs.Drafts.{IsDraftInRange, said, taken};
+ghost use Rattle.mix_tools.specs.Outcomes.{EndsReading, Reads, at_line};
+ghost use Rattle.mix_tools.specs.declared.requests.Draft.{Draft};
+
+use crate::make_lines::{read_make_line, read_path_line};
+use crate::reply_lines::{
+    read_answer_line, read_block_line, read_body_line, read_keys_line, read_open_line,
+    read_payload_line,
+};
+use crate::requests::Draft;
+use lab_text::{Status, next_word};
+use mix_base::Memory;
+use std::alloc::Global;
+
+/// The draft with the line of this number behind it.
+pub fn take_line(alloc: Global, draft: Draft, line: &[u8], number: u64) -> Result<Draft, Status>
+    requires in_range { IsDraftInRange draft }
+    ensures exact { Reads (taken number draft (words_of line.now)) result }
+    ensures in_range { IfOk result IsDraftInRange }
+    ensures kind { IfErr result EndsReading }
+    ensures no_read { IsErrOf result Status.ReadFault → ⊥ }
+{
+    let Some((first, rest)) = next_word(line) else {
+        return Ok(draft);
+    };
+    if first[0] == b'#' {
+        return Ok(draft);
+    }
+    said_line(alloc, draft, first, rest, number)
+}
+
+// The draft with a line that says something.
+fn said_line(
+    alloc: Global,
+    draft: Draft,
+    first: &[u8],
+    rest: &[u8],
+    number: u64,
+) -> Result<Draft, Status>
+    requires in_range { IsDraftInRange draft }
+    ensures exact { Reads (said number draft first.now (words_of rest.now)) result }
+    ensures in_range { IfOk result IsDraftInRange }
+    ensures kind { IfErr result EndsReading }
+    ensures no_read { IsErrOf result Status.ReadFault → ⊥ }
+{
+    match draft {
+        Draft::Making => read_make_line(alloc, first, rest, number),
+        Draft::Path {
+            product,
+            head,
+            draw,
+            hops,
+        } => at_number(
+            read_path_line(alloc, product, head, draw, hops, first, rest),
+            number,
+        ),
+        Draft::Answering => read_answer_line(first, rest, number),
+        Draft::AnswerSizes { geometry } => {
+            at_number(read_block_line(alloc, geometry, first, rest), number)
+        }
+        Draft::AnswerBlock { geometry, block } => {
+            at_number(read_body_line(alloc, geometry, block, first, rest), number)
+        }
+        Draft::Opening => read_open_line(first, rest, number),
+        Draft::OpenSizes { geometry } => {
+            at_number(read_keys_line(alloc, geometry, first, rest), number)
+        }
+        Draft::OpenKeys { geometry, keys } => at_number(
+            read_payload_line(alloc, geometry, keys, first, rest),
+            number,
+        ),
+        Draft::Whole { request: _ } => Err(Status::Line { line: number }),
+    }
+}
+
+// What was read of the line of this number.
+fn at_number(read: Result<Option<Draft>, Memory>, number: u64) -> Result<Draft, Status>
+    requires { IfOk read (λ draft. IfSome draft IsDraftInRange) }
+    ensures exact { (said : Option Draft) → IfOk read (λ draft. draft ≡ said) → Reads (at_line number said) result }
+    ensures in_range { IfOk result IsDraftInRange }
+    ensures kind { IfErr result EndsReading }
+    ensures no_read { IsErrOf result Status.ReadFault → ⊥ }
+{
+    match read {
+        Ok(Some(draft)) => Ok(draft),
+        Ok(None) => Err(Status::Line { line: number }),
+        Err(Memory) => Err(Status::Memory),
+    }
+}

@@ -1,0 +1,329 @@
+// The lines of a request to `make`: each is read exactly where it is in the grammar, behind what the lines before it
+// said.
+ghost use Rattle.std.specs.Prelude.{◌≡◌, ◌<◌, ◌≤◌, ◌^◌, length, IfOk, IfErr, IfSome, IsErrOf, All, option_and_then};
+ghost use Rattle.packet_form.specs.Geometry as lengths;
+ghost use Rattle.lab_text.specs.Words.{words_of};
+ghost use Rattle.mix_tools.specs.Drafts.{IsDelayInRange, IsDraftInRange, IsDrawInRange, IsHopInRange, IsPathInRange, IsPathWhole, IsRequestInRange, AreSizesInRange};
+ghost use Rattle.mix_tools.specs.MakeLines.{begun, block_in, delay_in, draw_in, draw_line, ended_path, hop_in, hop_line, make_line, packet_in, path_line, reply_in, to_line};
+ghost use Rattle.mix_tools.specs.Outcomes.{EndsReading, Reads};
+ghost use Rattle.lab_text.specs.WordForms.{only_word};
+ghost use Rattle.mix_tools.specs.declared.requests.Request.TheVariants.{Packet, Block};
+
+use crate::first_lines::{laboratory, read_seed_line};
+use crate::requests::{
+    BlockRequest, Delay, Draft, Head, Hop, Hops, PacketRequest, Product, Request, SeedLine,
+};
+use lab_text::{
+    Status, next_bytes, next_number, next_word, one_word, read_number, read_seed, read_surb,
+    sized_bytes,
+};
+use mix_base::{Bytes, Kem, Memory};
+use packet_form::{Geometry, LONGEST_DELAY};
+use prim_std::LabKem;
+use sphinx_make::Draw;
+use std::alloc::Global;
+
+/// The greatest threshold of a draw.
+const LAST_THRESHOLD: u64 = 4_294_967_295;
+
+/// The longest unit of a draw, in milliseconds.
+const LONGEST_UNIT: u64 = 60_000;
+
+/// The first line of a request to `make`, of this number.
+pub fn read_make_line(
+    alloc: Global,
+    first: &[u8],
+    rest: &[u8],
+    number: u64,
+) -> Result<Draft, Status>
+    ensures exact { Reads (make_line number first.now (words_of rest.now)) result }
+    ensures in_range { IfOk result IsDraftInRange }
+    ensures kind { IfErr result EndsReading }
+    ensures no_read { IsErrOf result Status.ReadFault → ⊥ }
+{
+    if first == b"packet".as_slice() {
+        begin(alloc, Product::Packet, read_seed_line(rest), number)
+    } else if first == b"block".as_slice() {
+        begin(alloc, Product::Block, read_seed_line(rest), number)
+    } else {
+        Err(Status::Line { line: number })
+    }
+}
+
+// The draft that a first line begins.
+fn begin(
+    alloc: Global,
+    product: Product,
+    line: Option<SeedLine>,
+    number: u64,
+) -> Result<Draft, Status>
+    requires { IfSome line (λ l. AreSizesInRange l.sizes) }
+    ensures exact { Reads (begun product number line) result }
+    ensures in_range { IfOk result IsDraftInRange }
+    ensures kind { IfErr result EndsReading }
+    ensures no_read { IsErrOf result Status.ReadFault → ⊥ }
+{
+    let Some(line) = line else {
+        return Err(Status::Line { line: number });
+    };
+    let geometry = laboratory(&line.sizes, number)?;
+    let seed = line.seed;
+    Ok(Draft::Path {
+        product,
+        head: Head { geometry, seed },
+        draw: None,
+        hops: Hops::new(alloc),
+    })
+}
+
+/// A line behind the first.
+pub fn read_path_line(
+    alloc: Global,
+    product: Product,
+    head: Head,
+    draw: Option<Draw>,
+    hops: Hops,
+    first: &[u8],
+    rest: &[u8],
+) -> Result<Option<Draft>, Memory>
+    requires path { IsPathInRange head hops }
+    requires draw { IfSome draw IsDrawInRange }
+    ensures exact { IfOk result (λ draft. draft ≡ path_line product head draw hops first.now (words_of rest.now)) }
+    ensures in_range { IfOk result (λ draft. IfSome draft IsDraftInRange) }
+{
+    if first == b"draw".as_slice() {
+        Ok(read_draw_line(product, head, draw, hops, rest))
+    } else if first == b"hop".as_slice() {
+        read_hop_line(alloc, product, head, draw, hops, rest)
+    } else if first == b"to".as_slice() {
+        read_to_line(alloc, product, head, hops, rest)
+    } else {
+        Ok(None)
+    }
+}
+
+// How delays are drawn, once, before the first hop.
+fn read_draw_line(
+    product: Product,
+    head: Head,
+    draw: Option<Draw>,
+    hops: Hops,
+    rest: &[u8],
+) -> Option<Draft>
+    requires { IsPathInRange head hops }
+    ensures exact { result ≡ draw_line product head draw hops (words_of rest.now) }
+    ensures in_range { IfSome result IsDraftInRange }
+{
+    if draw.is_some() || !hops.is_empty() {
+        return None;
+    }
+    let draw = Some(read_draw(rest)?);
+    Some(Draft::Path {
+        product,
+        head,
+        draw,
+        hops,
+    })
+}
+
+// What stands behind `draw`.
+fn read_draw(rest: &[u8]) -> Option<Draw>
+    ensures exact { result ≡ draw_in (words_of rest.now) }
+    ensures in_range { IfSome result IsDrawInRange }
+{
+    let (threshold, rest) = next_number(rest, 0, LAST_THRESHOLD)?;
+    let (unit, rest) = next_number(rest, 1, LONGEST_UNIT)?;
+    let cap = read_number(one_word(rest)?, 0, u64::from(LONGEST_DELAY))?;
+    Some(Draw {
+        threshold: threshold as u32,
+        unit: unit as u32,
+        cap: cap as u32,
+    })
+}
+
+// One more hop, where the geometry has room for it.
+fn read_hop_line(
+    alloc: Global,
+    product: Product,
+    head: Head,
+    draw: Option<Draw>,
+    hops: Hops,
+    rest: &[u8],
+) -> Result<Option<Draft>, Memory>
+    requires path { IsPathInRange head hops }
+    requires draw { IfSome draw IsDrawInRange }
+    ensures exact { IfOk result (λ draft. draft ≡ hop_line product head draw hops (words_of rest.now)) }
+    ensures in_range { IfOk result (λ draft. IfSome draft IsDraftInRange) }
+{
+    if hops.len() >= head.geometry.hops() {
+        return Ok(None);
+    }
+    match read_hop(alloc, draw, rest)? {
+        Some(hop) => {
+            let hops = hops.with(hop)?;
+            Ok(Some(Draft::Path {
+                product,
+                head,
+                draw,
+                hops,
+            }))
+        }
+        None => Ok(None),
+    }
+}
+
+// What stands behind `hop`.
+fn read_hop(alloc: Global, draw: Option<Draw>, rest: &[u8]) -> Result<Option<Hop>, Memory>
+    requires { IfSome draw IsDrawInRange }
+    ensures exact { IfOk result (λ hop. hop ≡ hop_in draw (words_of rest.now)) }
+    ensures in_range { IfOk result (λ hop. IfSome hop IsHopInRange) }
+{
+    let Some((word, rest)) = next_word(rest) else {
+        return Ok(None);
+    };
+    let Some(id) = read_seed(word) else {
+        return Ok(None);
+    };
+    let Some((key, rest)) = next_bytes(alloc, rest, LabKem::PK)? else {
+        return Ok(None);
+    };
+    match read_delay(draw, rest) {
+        Some(delay) => Ok(Some(Hop { id, key, delay })),
+        None => Ok(None),
+    }
+}
+
+// A delay as the only word.
+fn read_delay(draw: Option<Draw>, rest: &[u8]) -> Option<Delay>
+    requires { IfSome draw IsDrawInRange }
+    ensures exact { result ≡ option_and_then (delay_in draw) (only_word (words_of rest.now)) }
+    ensures in_range { IfSome result IsDelayInRange }
+{
+    let word = one_word(rest)?;
+    if word == b"-".as_slice() {
+        return Some(Delay::Unsaid);
+    }
+    if word == b"draw".as_slice() {
+        return Some(Delay::Drawn { draw: draw? });
+    }
+    let milliseconds = read_number(word, 0, u64::from(LONGEST_DELAY))?;
+    Some(Delay::Given {
+        milliseconds: milliseconds as u32,
+    })
+}
+
+// The recipient's line, behind one hop at least.
+fn read_to_line(
+    alloc: Global,
+    product: Product,
+    head: Head,
+    hops: Hops,
+    rest: &[u8],
+) -> Result<Option<Draft>, Memory>
+    requires { IsPathInRange head hops }
+    ensures exact { IfOk result (λ draft. draft ≡ to_line product head hops (words_of rest.now)) }
+    ensures in_range { IfOk result (λ draft. IfSome draft IsDraftInRange) }
+{
+    if hops.is_empty() {
+        return Ok(None);
+    }
+    end_path(alloc, product, head, hops, rest)
+}
+
+// What stands behind `to`, for either product.
+fn end_path(
+    alloc: Global,
+    product: Product,
+    head: Head,
+    hops: Hops,
+    rest: &[u8],
+) -> Result<Option<Draft>, Memory>
+    requires { IsPathWhole head hops }
+    ensures exact { IfOk result (λ draft. draft ≡ ended_path product head hops (words_of rest.now)) }
+    ensures in_range { IfOk result (λ draft. IfSome draft IsDraftInRange) }
+{
+    match product {
+        Product::Packet => match read_packet(alloc, head, hops, rest)? {
+            Some(packet) => Ok(Some(Draft::Whole {
+                request: Request::Packet { packet },
+            })),
+            None => Ok(None),
+        },
+        Product::Block => match read_reply(head, hops, rest) {
+            Some(block) => Ok(Some(Draft::Whole {
+                request: Request::Block { block },
+            })),
+            None => Ok(None),
+        },
+    }
+}
+
+// What stands behind `to` for a packet.
+fn read_packet(
+    alloc: Global,
+    head: Head,
+    hops: Hops,
+    rest: &[u8],
+) -> Result<Option<PacketRequest>, Memory>
+    requires { IsPathWhole head hops }
+    ensures exact { IfOk result (λ packet. packet ≡ packet_in head hops (words_of rest.now)) }
+    ensures in_range { IfOk result (λ packet. IfSome packet (λ p. IsRequestInRange (Packet p))) }
+{
+    let Some((word, rest)) = next_word(rest) else {
+        return Ok(None);
+    };
+    let Some(recipient) = read_seed(word) else {
+        return Ok(None);
+    };
+    let Some((body, rest)) = next_bytes(alloc, rest, head.geometry.body())? else {
+        return Ok(None);
+    };
+    match read_block(alloc, &head.geometry, rest)? {
+        Some(block) => Ok(Some(PacketRequest {
+            head,
+            hops,
+            recipient,
+            body,
+            block,
+        })),
+        None => Ok(None),
+    }
+}
+
+// What stands behind `to` for a block.
+fn read_reply(head: Head, hops: Hops, rest: &[u8]) -> Option<BlockRequest>
+    requires { IsPathWhole head hops }
+    ensures exact { result ≡ reply_in head hops (words_of rest.now) }
+    ensures in_range { IfSome result (λ b. IsRequestInRange (Block b)) }
+{
+    let (word, rest) = next_word(rest)?;
+    let recipient = read_seed(word)?;
+    let surb = read_surb(one_word(rest)?)?;
+    Some(BlockRequest {
+        head,
+        hops,
+        recipient,
+        surb,
+    })
+}
+
+// A reply block as the only word, or no word.
+fn read_block(
+    alloc: Global,
+    geometry: &Geometry,
+    rest: &[u8],
+) -> Result<Option<Option<Bytes>>, Memory>
+    ensures exact { IfOk result (λ block. block ≡ block_in geometry.now (words_of rest.now)) }
+    ensures in_range { IfOk result (λ block. IfSome block (λ b. IfSome b (λ bytes. length bytes ≡ lengths.block geometry.now))) }
+{
+    let Some((word, rest)) = next_word(rest) else {
+        return Ok(Some(None));
+    };
+    if next_word(rest).is_some() {
+        return Ok(None);
+    }
+    match sized_bytes(alloc, word, geometry.block())? {
+        Some(block) => Ok(Some(Some(block))),
+        None => Ok(None),
+    }
+}

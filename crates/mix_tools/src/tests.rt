@@ -1,0 +1,241 @@
+// What no clause says: that the texts are those of another program for the same requests, that calls succeed where
+// memory is ample, and that a failing source or sink is named.
+use crate::tool;
+use lab_text::{LineReader, Status};
+use mix_base::{MemSink, MemSource};
+use prim_std::sha256;
+use std::alloc::{AllocError, Global};
+use std::process::Abort;
+use std::test::Fail;
+
+/// What a capital letter of a request stands for: S and T seeds, I and J ids of hops, K and L their keys, R a
+/// recipient, B a body, Y another, U the id of a reply, Z a seed of zeros.
+fn meant(letter: u8) -> &'static str {
+    match letter {
+        b'S' => "0101010101010101010101010101010101010101010101010101010101010101",
+        b'T' => "792638477b7c777db6cb28465f5fae8280965a1e685b713ca2acb2ec9d823b76",
+        b'I' => "1111111111111111111111111111111111111111111111111111111111111111",
+        b'J' => "a0d72ac1482fa07db627abf7b1fe33b7d46ea9cc633d3b290258b81fc846d8a0",
+        b'K' => "920d9f639d8390f5f6d811d4c99d61b6b772d759812c630090e7decc3a536bfa",
+        b'L' => "3d2973e540cbcf0c57654dbd4e2fd9517738db92997f4585ef674e3ae91891eb",
+        b'R' => "2222222222222222222222222222222222222222222222222222222222222222",
+        b'B' => {
+            "41414141414141414141414141414141414141414141414141414141414141414141414141414141414141414141414141414141414141414141414141414141"
+        }
+        b'Y' => "1b9003e33134a5f3289f7eb17f5c66fe",
+        b'U' => "ad1695ad97a08f1ab473b5c628a9ab5a",
+        _ => "0000000000000000000000000000000000000000000000000000000000000000",
+    }
+}
+
+/// The text, with what is meant in place of each capital letter.
+fn filled(alloc: Global, text: &str) -> Result<Vec<u8>, AllocError> {
+    let mut bytes = Vec::new(alloc);
+    for byte in text.as_bytes() {
+        if byte.is_ascii_uppercase() {
+            bytes.extend_from_slice(meant(*byte).as_bytes())?;
+        } else {
+            bytes.push(*byte)?;
+        }
+    }
+    Ok(bytes)
+}
+
+/// The words of a command line, with what is meant.
+fn words(alloc: Global, line: &[&str]) -> Result<Vec<String>, Fail> {
+    let mut words = Vec::new(alloc);
+    for word in line {
+        words.push(String::from_utf8(filled(alloc, word)?)?)?;
+    }
+    Ok(words)
+}
+
+/// A command over an input, with the calls of source and sink that fail: its answer and what was given.
+fn run(
+    alloc: Global,
+    line: &[&str],
+    input: Vec<u8>,
+    reads: &[u64],
+    writes: &[u64],
+) -> Result<(Option<Status>, MemSink), Fail> {
+    let words = words(alloc, line)?;
+    let mut source = MemSource::new(input, Vec::from_slice(alloc, reads)?);
+    let mut sink = MemSink::new(alloc, Vec::from_slice(alloc, writes)?);
+    let answer = tool(alloc, &words, &mut source, &mut sink);
+    Ok((answer, sink))
+}
+
+/// The SHA-256 of a text.
+fn sum(alloc: Global, text: &[u8]) -> Result<String, AllocError> {
+    hex::encode(alloc, sha256(text).as_slice())
+}
+
+/// A request to `make`, and the line at which it stops, or the SHA-256 of the text that another program writes.
+type Case = (&'static str, Result<&'static str, u64>);
+
+fn expect_texts(rt: &impl Abort, alloc: Global, cases: &[Case]) -> Result<(), Fail> {
+    for (request, wanted) in cases {
+        let (answer, sink) = run(alloc, &["make"], filled(alloc, request)?, &[], &[])?;
+        match wanted {
+            Ok(wanted) => {
+                assert!(rt; answer == Some(Status::Done), "{request}");
+                assert!(rt; sum(alloc, sink.bytes())?.as_str() == *wanted, "{request}");
+            }
+            Err(line) => {
+                assert!(rt; answer == Some(Status::Line { line: *line }), "{request}");
+                assert!(rt; sink.bytes().is_empty(), "{request}");
+            }
+        }
+    }
+    Ok(())
+}
+
+#[test]
+fn keys_of_epochs(rt: HostRuntime) -> Result<(), Fail> {
+    let alloc = rt.alloc();
+    let cases: [(&[&str], Option<&str>); 8] = [
+        (&["keys", "lab", "Z", "0"], Some("key 0 K\n")),
+        (
+            &["keys", "lab", "Z", "0009"],
+            Some("key 9 6a1e8d0d2b1c4eaf1fa3d7faa7425238ed9d06514bbfe5883e3c407f3464bbf4\n"),
+        ),
+        (
+            &["keys", "lab", "Z", "1152921504606846975"],
+            Some(
+                "key 1152921504606846975 f9ed77993428506779427c616720c3bdbb4839e6671ea8baff070eff6ff682b4\n",
+            ),
+        ),
+        (&["keys", "lab", "Z", "1152921504606846976"], None),
+        (&["keys", "lab", "Z"], None),
+        (&["keys", "lab", "000", "0"], None),
+        (&["keys", "ntru", "Z", "0"], None),
+        (&["make", "now"], None),
+    ];
+    for (line, wanted) in cases {
+        let (answer, sink) = run(alloc, line, Vec::new(alloc), &[], &[])?;
+        match wanted {
+            Some(text) => {
+                assert!(rt; answer == Some(Status::Done));
+                assert!(rt; sink.bytes() == filled(alloc, text)?.as_slice());
+            }
+            None => assert!(rt; answer.is_none() && sink.bytes().is_empty()),
+        }
+    }
+    Ok(())
+}
+
+#[test]
+fn packets_of_requests(rt: HostRuntime) -> Result<(), Fail> {
+    let alloc = rt.alloc();
+    expect_texts(
+        &rt,
+        alloc,
+        &[
+            (
+                "packet lab 5 64 S\nhop I K -\nto R B\n",
+                Ok("814e587abe2327bef3a8c753016c73134767664e0b6ce8b618a68d82762ffece"),
+            ),
+            (
+                "packet lab 5 64 S\nhop I K 500\nto R B\n",
+                Ok("f4457340ae48bff9e1f63d3a11afd13514ca40b3a2fb441854f207a81d7839a8"),
+            ),
+            (
+                "packet lab 5 64 S\ndraw 2147483648 100 1000\nhop I K draw\nhop I K draw\nhop I K draw\nhop I K draw\nhop I K draw\nto R B\n",
+                Ok("51137aa644583f5b85fe6bd293cf28f25543db1ef4ebdf4065356ad8b1f7851e"),
+            ),
+            (
+                "packet lab 5 64 S\nhop I K -\nto R B\n# done\n\n",
+                Ok("814e587abe2327bef3a8c753016c73134767664e0b6ce8b618a68d82762ffece"),
+            ),
+        ],
+    )
+}
+
+#[test]
+fn requests_outside_the_grammar(rt: HostRuntime) -> Result<(), Fail> {
+    let alloc = rt.alloc();
+    expect_texts(
+        &rt,
+        alloc,
+        &[
+            ("", Err(1)),
+            ("packet lab 5 64 S\nhop I K -\nto R Y\n", Err(3)),
+            ("packet lab 5 64 S\nhop I K 10800001\nto R B\n", Err(2)),
+            ("packet lab 5 64 S\nhop I K draw\nto R B\n", Err(2)),
+            ("packet lab 5 64 S\nhop I K -\nto R B\nhop\n", Err(4)),
+            ("packet lab 5 64 S\nhop I K -\nto R B -\n", Err(3)),
+            ("packet lab 5 64 S\nto R B\n", Err(2)),
+            ("packet lab 1 64 S\nhop I K -\nhop I K -\nto R B\n", Err(3)),
+        ],
+    )
+}
+
+/// The line of this number, counted from 0.
+fn line_at(alloc: Global, text: &[u8], number: u64) -> Result<Vec<u8>, Fail> {
+    let source = MemSource::new(text.to_vec(alloc)?, Vec::new(alloc));
+    let mut reader = LineReader::new(alloc, source);
+    for _ in 0..number {
+        let _ = reader.next_line(alloc)?;
+    }
+    Ok(reader.next_line(alloc)?.ok_or("the line is missing")?)
+}
+
+/// Lines, each with its line feed, of which the second is given as it is.
+fn three_lines(
+    alloc: Global,
+    first: &str,
+    second: &[u8],
+    third: &str,
+) -> Result<Vec<u8>, AllocError> {
+    let mut text = filled(alloc, first)?;
+    text.extend_from_slice(second)?;
+    text.push(b'\n')?;
+    text.extend_from_slice(&filled(alloc, third)?)?;
+    Ok(text)
+}
+
+#[test]
+fn a_block_its_answer_and_a_changed_reply(rt: HostRuntime) -> Result<(), Fail> {
+    let alloc = rt.alloc();
+    let request = filled(
+        alloc,
+        "block lab 3 16 T\ndraw 1510840656 35880 8530212\nhop J L 77\nhop e9cd84d785db9f1d83a34d882accb35dcbc9da34201cb3b405a9147ba6c4a930 d8828343e34f83b8918691fd3180ce82d05d0f031faa95a15d7a2070c98a1af4 77\nto fb9e15bf967673038e829165a0c349c060a217e3e81f59d51eaac10bd49fb82a U\n",
+    )?;
+    let (answer, made) = run(alloc, &["make"], request, &[], &[])?;
+    assert!(rt; answer == Some(Status::Done));
+    assert!(rt;
+        sum(alloc, made.bytes())?.as_str()
+            == "fb750d5b48813fb66fe289ad0c6d3c0cf329e11dc98d087fef8be5868af1ea89"
+    );
+    let block = line_at(alloc, made.bytes(), 0)?;
+    let request = three_lines(alloc, "answer lab 3 16\n", &block, "body Y\n")?;
+    let (answer, sent) = run(alloc, &["answer"], request, &[], &[])?;
+    assert!(rt; answer == Some(Status::Done));
+    assert!(rt;
+        sum(alloc, sent.bytes())?.as_str()
+            == "25ca1ab586e5538ecd2a9a69f407a2b22884aaa752a12d810ac5aae87bdf8d03"
+    );
+    let keys = line_at(alloc, made.bytes(), 1)?;
+    let mut request = three_lines(alloc, "open lab 3 16\n", &keys, "payload ")?;
+    for _ in 0..652 {
+        request.extend_from_slice(b"5a")?;
+    }
+    let (answer, opened) = run(alloc, &["open"], request, &[], &[])?;
+    assert!(rt; answer == Some(Status::Done));
+    assert!(rt; opened.bytes() == b"damaged\n".as_slice());
+    Ok(())
+}
+
+#[test]
+fn failed_calls_are_named(rt: HostRuntime) -> Result<(), Fail> {
+    let alloc = rt.alloc();
+    let request = "packet lab 5 64 S\nhop I K -\nto R B\n";
+    let (answer, sink) = run(alloc, &["make"], filled(alloc, request)?, &[1], &[])?;
+    assert!(rt; answer == Some(Status::ReadFault) && sink.bytes().is_empty());
+    let (answer, sink) = run(alloc, &["make"], filled(alloc, request)?, &[], &[1])?;
+    assert!(rt; answer == Some(Status::WriteFault) && sink.bytes().is_empty());
+    let later = filled(alloc, "# a suite for later\npacket ntru 5 64 S\n")?;
+    let (answer, sink) = run(alloc, &["make"], later, &[], &[])?;
+    assert!(rt; answer == Some(Status::Later { line: 2 }) && sink.bytes().is_empty());
+    Ok(())
+}
