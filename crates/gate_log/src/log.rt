@@ -3,7 +3,7 @@
 ghost use Rattle.std.specs.Prelude.{◌≡◌, ℕ, ◌+◌, ◌*◌, ◌<◌, ◌≤◌, ◌^◌, ◌↔◌, ◌++◌, [], ◌∷◌, length, true, false, IsTrue, IfOk, IfErr, OnOk, OnErr, IsErrOf};
 ghost use Rattle.std.specs.List.{concat};
 ghost use Rattle.mix_base.specs.Faults.{Rose};
-ghost use Rattle.replay_disk.specs.Disk.{RackState, area_at, contents_of, settled, CountsFault};
+ghost use Rattle.replay_disk.specs.Disk.{RackState, area_at, contents_of, settled, CountsFault, OnlyFaults};
 ghost use Rattle.replay_disk.specs.Moments.{AtEachMoment};
 ghost use Rattle.gate_log.specs.declared.log.LogOpen.TheVariants.{Failed as rack_failed, Memory as want_of_memory};
 ghost use Rattle.gate_log.specs.Answers.{IfOverfull};
@@ -136,6 +136,31 @@ impl GateLog {
         };
         let records = Bytes::of(records);
         Ok(OpenedLog { log, records })
+    }
+
+    /// The records of an area, one after the other, as a log on it would have them. Nothing is written. Asks what `open`
+    /// asks.
+    pub fn read_records<R: Rack>(
+        alloc: Global,
+        rack: &mut R,
+        area: u8,
+        size: usize,
+        limit: u64,
+    ) -> Result<Bytes, LogOpen>
+        requires area { area < 3 }
+        requires some { 0 < size }
+        requires size { size ≤ 63 }
+        requires limit { limit ≤ 2 ^ 26 }
+        ensures records { R.tells → IfOk result (λ found. found ≡ concat (records size (contents_of area (R.state rack.old)))) }
+        ensures fits { R.tells → OnOk result (length (records size (contents_of area (R.state rack.old))) ≤ limit) }
+        ensures short { IfOk result (λ found. length found ≤ size * limit) }
+        ensures overfull { R.tells → IfErr result (IfOverfull size limit (contents_of area (R.state rack.old))) }
+        ensures same { OnlyFaults (R.state rack.old) (R.state rack.new) }
+        ensures failed { IsErrOf result LogOpen.Failed → Rose (R.state rack.old).faults (R.state rack.new).faults }
+        ensures not_failed { ¬ IsErrOf result LogOpen.Failed → R.state rack.new ≡ R.state rack.old }
+    {
+        let found = scan(alloc, rack, area, size, limit)?;
+        Ok(Bytes::of(found.records))
     }
 
     /// Takes an area for a log that is empty, whatever stood there. Asks what `open` asks, and room for one byte.

@@ -1,5 +1,5 @@
 // Reading the records of an area from its front, as many as a log may have.
-ghost use Rattle.std.specs.Prelude.{◌≡◌, ℕ, ◌+◌, ◌*◌, ◌<◌, ◌≤◌, ◌^◌, ◌++◌, length, take, drop, IfOk, OnOk, OnErr, IsErrOf, IfErr};
+ghost use Rattle.std.specs.Prelude.{◌≡◌, ℕ, ◌+◌, ◌*◌, ◌<◌, ◌≤◌, ◌^◌, ◌++◌, length, take, drop, vec_len, IfOk, OnOk, OnErr, IsErrOf, IfErr};
 ghost use Rattle.mix_base.specs.Faults.{Rose};
 ghost use Rattle.replay_disk.specs.Disk.{contents_of, OnlyFaults};
 ghost use Rattle.gate_log.specs.Records.{gate_of, record_at, records, IsScanned, IsOverfull};
@@ -46,6 +46,7 @@ pub fn scan<R: Rack>(
     requires limit { limit ≤ 2 ^ 26 }
     ensures found { R.tells → IfOk result (IsScanned size (contents_of area (R.state rack.old))) }
     ensures within { IfOk result (λ found. found.count ≤ limit) }
+    ensures short { IfOk result (λ found. vec_len found.records ≤ size * limit) }
     ensures overfull { R.tells → IfErr result (IfOverfull size limit (contents_of area (R.state rack.old))) }
     ensures same { OnlyFaults (R.state rack.old) (R.state rack.new) }
     ensures failed { IsErrOf result LogOpen.Failed → Rose (R.state rack.old).faults (R.state rack.new).faults }
@@ -91,6 +92,7 @@ fn read_one<R: Rack>(
     requires range { at + size + 2 ≤ 2 ^ 40 }
     ensures gate { R.tells → IfOk result (λ gate. gate ≡ gate_of size (drop at (contents_of area (R.state rack.old)))) }
     ensures records { R.tells → IfOk result (λ gate. records.new.items ≡ records.old.items ++ record_at size (drop at (contents_of area (R.state rack.old))) gate) }
+    ensures short { OnOk result (vec_len records.new ≤ vec_len records.old + size) }
     ensures overfull { IfErr result IsNotOverfull }
     ensures same { OnlyFaults (R.state rack.old) (R.state rack.new) }
     ensures ok { OnOk result (R.state rack.new ≡ R.state rack.old) }

@@ -20,6 +20,7 @@ loop-count-preserved g c =
           ∙ ap (λ (gate : Gate). loop.records.items ++ record_at c.args.size (drop place (contents_of c.args.area (g.R.Rack.state loop.rack))) gate) c.in-Record.is
           ∙ ap (λ (xs : List ℕ). loop.records.items ++ take c.args.size (drop 1 xs)) here in
           so_far_more c.args.size (contents_of c.args.area (g.R.Rack.state c.args.rack.now)) loop.count loop.records.items c.read_one.new.records.items (loop.invariant.read t) is added;
+      short = omega (arith, loop.invariant.short, c.in_ok-read_one.ensures.short);
     }
 
 pub returns-in-Open-clause-found : goal.returns-in-Open-clause-found
