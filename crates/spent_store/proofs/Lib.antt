@@ -1,5 +1,10 @@
+pub mod Cutting
 pub mod Examples
+pub mod JournalOpening
 pub mod LogsOf
-pub mod NearOf
-pub mod RecordsOf
-pub mod StandingOf
+pub mod OpeningBooks
+pub mod OpeningLogs
+pub mod RootMaking
+pub mod Stages
+pub mod StoreLogs
+pub mod StoreOpening

@@ -26,6 +26,10 @@ pub record StoredBook : Type 0 where
 abbrev pub begun : StoredBook → List ℕ
 begun book = map (λ log. log.epoch) book.logs
 
+-- the epoch has begun
+abbrev pub has_begun : ℕ → StoredBook → Bool
+has_begun epoch book = list_any (λ other. other == epoch) (begun book)
+
 -- the spent pairs of epoch and tag, epoch after epoch
 abbrev pub pairs : StoredBook → List (ℕ × List ℕ)
 pairs book = flat_map (λ log. map (λ tag. (log.epoch, tag)) log.tags) book.logs
@@ -49,9 +53,13 @@ is_spent epoch tag book = list_any (λ log. log.epoch == epoch && list_any (λ o
 abbrev pub area_of : ℕ → ℕ
 area_of epoch = 1 + epoch % 2
 
--- an epoch's log, from the bytes of areas 1 and 2
+-- the bytes of that area, of areas 1 and 2
+abbrev pub log_bytes : List ℕ → List ℕ → ℕ → List ℕ
+log_bytes one two epoch = if area_of epoch == 1 then one else two
+
+-- an epoch's log, from these bytes
 abbrev pub log_in : List ℕ → List ℕ → ℕ → EpochLog
-log_in one two epoch = record { epoch = epoch; tags = records 32 (if area_of epoch == 1 then one else two) }
+log_in one two epoch = record { epoch = epoch; tags = records 32 (log_bytes one two epoch) }
 
 -- the book that the bytes spell, where nothing is against them
 abbrev pub spelled_book : List ℕ → List ℕ → List ℕ → StoredBook
@@ -79,9 +87,13 @@ abbrev pub other_shape : Shape → List RootRecord → Option Objection
 other_shape shape (Made value ∷ _) = if value == shape_value shape then None else Some (OtherShape (value_shape value))
 other_shape shape _ = None
 
+-- the log of one of these epochs stands in the area
+abbrev pub is_used : ℕ → List ℕ → Bool
+is_used area begun = list_any (λ epoch. area_of epoch == area) begun
+
 -- an area whose log is of a begun epoch, and overfull
 abbrev pub overfull_log : ℕ → ℕ → List ℕ → List ℕ → Option Objection
-overfull_log limit area bytes begun = if list_any (λ epoch. area_of epoch == area) begun then overfull limit area 32 bytes else None
+overfull_log limit area bytes begun = if is_used area begun then overfull limit area 32 bytes else None
 
 -- in this order
 abbrev pub objections : List ℕ → List ℕ → List ℕ → Shape → ℕ → List (Option Objection)

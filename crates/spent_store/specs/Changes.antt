@@ -1,9 +1,8 @@
 -- The changes of a book, step by step. A change that was cut off by a crash has been made up to one of its stages.
 use Rattle.std.specs.Prelude.{ℕ, ◌==◌, nat_le, List, [], ◌∷◌, ◌++◌, map, filter, Result, Ok, Err, if◌then◌else◌}
-use Rattle.std.specs.List.{list_any}
 use Rattle.mix_base.specs.declared.suites.Shape.{Shape}
 use Rattle.spent_store.specs.Root.{shape_value}
-use Rattle.spent_store.specs.Books.{EpochLog, StoredBook, begun}
+use Rattle.spent_store.specs.Books.{EpochLog, StoredBook, has_begun}
 use Rattle.spent_store.specs.declared.root.RootRecord.{RootRecord}
 use Rattle.spent_store.specs.declared.root.RootRecord.TheVariants.{Made, Begin, Floor}
 use Rattle.spent_store.specs.declared.objections.Objection.{Objection}
@@ -17,7 +16,7 @@ raised floor book =
 -- an epoch begun, with nothing spent in it
 abbrev pub begun_with : ℕ → StoredBook → StoredBook
 begun_with epoch book =
-    if list_any (λ other. other == epoch) (begun book) then book
+    if has_begun epoch book then book
     else record book { logs = book.logs ++ record { epoch = epoch; tags = [] } ∷ []; roots = book.roots ++ Begin epoch ∷ [] }
 
 -- a tag spent in a begun epoch, behind those spent in it before

@@ -1,6 +1,6 @@
 -- The root of a store: its records, what they say, and which of them can't be.
 use Rattle.std.specs.Prelude.{◌≡◌, ℕ, ◌+◌, ◌*◌, ◌/◌, ◌%◌, ◌≤◌, ◌==◌, ◌&&◌, ◌||◌, not, nat_le, nat_lt, Bool, true, false, ⊤, List, [], ◌∷◌, ◌++◌, length, drop, slice_index, fold, filter, map, Option, Some, None, if◌then◌else◌}
-use Rattle.std.specs.Int.{from_be_bytes, w64}
+use Rattle.std.specs.Int.{from_be_bytes, to_be_bytes, w64}
 use Rattle.std.specs.List.{filter_map, list_any}
 use Rattle.mix_base.specs.declared.suites.Shape.{Shape}
 use Rattle.gate_log.specs.Records.{records}
@@ -13,6 +13,13 @@ root_record bytes =
     let kind = slice_index bytes 0 in
     let value = from_be_bytes w64 (drop 1 bytes) in
     if kind == 1 then Made value else (if kind == 2 then Begin value else (if kind == 3 then Floor value else Other kind value))
+
+-- the nine bytes of a record
+abbrev pub spell_root : RootRecord → List ℕ
+spell_root (Made value) = 1 ∷ to_be_bytes w64 value
+spell_root (Begin epoch) = 2 ∷ to_be_bytes w64 epoch
+spell_root (Floor epoch) = 3 ∷ to_be_bytes w64 epoch
+spell_root (Other kind value) = kind ∷ to_be_bytes w64 value
 
 -- the records of a root
 abbrev pub roots_in : List ℕ → List RootRecord

@@ -2,7 +2,7 @@
 ghost use Rattle.std.specs.Prelude.{◌≡◌};
 
 use crate::objections::Objection;
-use mix_base::Shape;
+use mix_base::{Failed, Memory, Shape};
 use std::alloc::AllocError;
 
 /// What a store's book comes to.
@@ -47,6 +47,26 @@ impl From<AllocError> for OpenStore {
     ghost from_gives = { λ _ fault. fault ≡ faults.Memory };
 
     fn from(_: AllocError) -> Self {
+        OpenStore::Memory
+    }
+}
+
+impl From<Failed> for OpenStore {
+    ghost use Rattle.spent_store.specs.declared.answers.OpenStore.TheVariants as faults;
+
+    ghost from_gives = { λ _ fault. fault ≡ faults.Failed };
+
+    fn from(_: Failed) -> Self {
+        OpenStore::Failed
+    }
+}
+
+impl From<Memory> for OpenStore {
+    ghost use Rattle.spent_store.specs.declared.answers.OpenStore.TheVariants as faults;
+
+    ghost from_gives = { λ _ fault. fault ≡ faults.Memory };
+
+    fn from(_: Memory) -> Self {
         OpenStore::Memory
     }
 }

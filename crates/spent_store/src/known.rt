@@ -11,7 +11,7 @@ use crate::root::RootRecord;
 use std::marker::Model;
 
 /// Whether a tag is among these.
-fn has_tag(tags: &[[u8; 32]], tag: &[u8; 32]) -> bool
+pub fn has_tag(tags: &[[u8; 32]], tag: &[u8; 32]) -> bool
     ensures { result ≡ list_any (λ other. bytes_eq other tag.now) tags.now }
 {
     tags.iter().any(|other| other == tag)
@@ -26,7 +26,7 @@ fn added_by(tag: &[u8; 32], others: &[[u8; 32]]) -> u64
 }
 
 /// How many different tags there are.
-fn distinct_count(tags: &[[u8; 32]]) -> u64
+pub fn distinct_count(tags: &[[u8; 32]]) -> u64
     ensures value { result ≡ books.distinct_count tags.now }
     ensures bound { result ≤ length tags.now }
 {
@@ -61,6 +61,16 @@ impl KnownLog {
         ensures { result ≡ record { epoch = epoch; tags = tags.items } }
     {
         KnownLog { epoch, tags }
+    }
+
+    /// The epoch and the tags.
+    pub fn into_parts(self) -> (u64, Vec<[u8; 32]>)
+        ensures epoch { result.0 ≡ self.epoch }
+        ensures tags { result.1.items ≡ self.tags }
+        ensures few { vec_len result.1 ≤ 2 ^ 26 }
+    {
+        let KnownLog { epoch, tags } = self;
+        (epoch, tags)
     }
 
     /// How many different tags are spent in the epoch.
@@ -98,6 +108,25 @@ impl KnownBook {
         ensures { result ≡ record { floor = floor; logs = logs.items; roots = roots.items } }
     {
         KnownBook { floor, logs, roots }
+    }
+
+    /// The records of the root.
+    pub fn roots(&self) -> &[RootRecord]
+        ensures { result.now ≡ self.now.roots }
+    {
+        &self.roots
+    }
+
+    /// The floor, the logs and the records of the root.
+    pub fn into_parts(self) -> (u64, Vec<KnownLog>, Vec<RootRecord>)
+        ensures floor { result.0 ≡ self.floor }
+        ensures logs { result.1.items ≡ self.logs }
+        ensures roots { result.2.items ≡ self.roots }
+        ensures near { AreNear self.floor (map (λ log. log.epoch) self.logs) }
+        ensures two { length self.logs ≤ 2 }
+    {
+        let KnownBook { floor, logs, roots } = self;
+        (floor, logs, roots)
     }
 
     /// What the book comes to.

@@ -1,6 +1,8 @@
 // The records of a root, in which a store writes its shape, its floor and the epochs that it has begun.
 ghost use Rattle.std.specs.Prelude.{◌≡◌, ℕ, List};
 
+use mix_base::Shape;
+
 /// A record of the root, of nine bytes: a byte of kind, and a value of eight bytes, the highest first.
 #[derive(Clone, Copy, Debug, PartialEq, Eq)]
 pub enum RootRecord {
@@ -15,7 +17,7 @@ pub enum RootRecord {
 }
 
 impl RootRecord {
-    ghost use Rattle.spent_store.specs.Root.{root_record};
+    ghost use Rattle.spent_store.specs.Root.{root_record, shape_value, spell_root};
 
     /// The record that nine bytes spell.
     pub fn of(bytes: &[u8; 9]) -> RootRecord
@@ -30,5 +32,27 @@ impl RootRecord {
             3 => RootRecord::Floor(value),
             kind => RootRecord::Other(kind, value),
         }
+    }
+
+    /// The first record of a root that is made for a shape.
+    pub fn made(shape: &Shape) -> RootRecord
+        ensures { result ≡ RootRecord.Made (shape_value shape.now) }
+    {
+        RootRecord::Made(u64::from(shape.shards) * 256 + u64::from(shape.index))
+    }
+
+    /// The nine bytes that spell the record.
+    pub fn to_bytes(&self) -> [u8; 9]
+        ensures { result ≡ spell_root self.now }
+    {
+        let (kind, value) = match *self {
+            RootRecord::Made(value) => (1, value),
+            RootRecord::Begin(value) => (2, value),
+            RootRecord::Floor(value) => (3, value),
+            RootRecord::Other(kind, value) => (kind, value),
+        };
+        let mut bytes = [kind; 9];
+        bytes[1..].copy_from_slice(&value.to_be_bytes());
+        bytes
     }
 }

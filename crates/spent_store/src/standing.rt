@@ -1,8 +1,10 @@
 // What the records of a root say: the floor and the begun epochs, or the first record that can't be.
-ghost use Rattle.std.specs.Prelude.{◌≡◌, ℕ, ◌+◌, ◌*◌, ◌^◌, ◌<◌, ◌≤◌, ◌==◌, ◌||◌, Bool, List, length, None, IfOk, OnOk, IfErr};
+ghost use Rattle.std.specs.Prelude.{◌≡◌, ℕ, ◌+◌, ◌*◌, ◌^◌, ◌<◌, ◌≤◌, ◌==◌, ◌||◌, Bool, List, length, None, IfOk, OnOk, IfErr, IsErrOf};
 ghost use Rattle.std.specs.List.{list_any};
 ghost use Rattle.std.specs.Result.{result_err};
-ghost use Rattle.spent_store.specs.Answers.{Objects};
+ghost use Rattle.mix_base.specs.Faults.{Rose};
+ghost use Rattle.replay_disk.specs.Disk.{contents_of, OnlyFaults};
+ghost use Rattle.spent_store.specs.Answers.{Objects, Refuses};
 ghost use Rattle.spent_store.specs.Books as books;
 ghost use Rattle.spent_store.specs.Root as root_meaning;
 ghost use Rattle.spent_store.specs.Root.{begun_of, floor_of};
@@ -11,6 +13,7 @@ use crate::answers::OpenStore;
 use crate::objections::Objection;
 use crate::root::RootRecord;
 use mix_base::Shape;
+use replay_disk::Rack;
 use std::alloc::{AllocError, Global};
 
 /// What a root says: the floor, and the begun epochs that aren't below it.
@@ -105,12 +108,21 @@ pub fn read_standing(alloc: Global, roots: &[RootRecord]) -> Result<Standing, Op
     Ok(Standing { floor, begun })
 }
 
-/// Refuses bytes without a record that are more than the writing of the first record leaves.
-pub fn check_recorded(bytes: &[u8], roots: &[RootRecord]) -> Result<(), Objection>
-    ensures { result_err result ≡ books.unrecorded bytes.now roots.now }
+/// Refuses a root without a record that has more bytes than the writing of the first record leaves. Nothing is
+/// written.
+pub fn check_recorded<R: Rack>(rack: &mut R, roots: &[RootRecord]) -> Result<(), OpenStore>
+    ensures recorded { R.tells → OnOk result (books.unrecorded (contents_of 0 (R.state rack.old)) roots.now ≡ None) }
+    ensures objection { R.tells → IfErr result (λ fault. Refuses fault (books.unrecorded (contents_of 0 (R.state rack.old)) roots.now)) }
+    ensures ok { OnOk result (R.state rack.new ≡ R.state rack.old) }
+    ensures same { OnlyFaults (R.state rack.old) (R.state rack.new) }
+    ensures failed { IsErrOf result OpenStore.Failed → Rose (R.state rack.old).faults (R.state rack.new).faults }
+    ensures not_failed { ¬ IsErrOf result OpenStore.Failed → R.state rack.new ≡ R.state rack.old }
 {
-    if roots.is_empty() && bytes.len() > 11 {
-        return Err(Objection::Foreign { area: 0, at: 0 });
+    if roots.is_empty() {
+        let length = rack.length(0)?;
+        if length > 11 {
+            return Err(OpenStore::Foreign { area: 0, at: 0 });
+        }
     }
     Ok(())
 }

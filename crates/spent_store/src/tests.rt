@@ -1,7 +1,9 @@
 // Roots that no store writes, each with its place; what stores write, read again; and the order of what is looked for.
-use super::*;
-use crate::reading::read_book;
+ghost use Rattle.std.specs.Prelude.{◌<◌, ◌≤◌, ◌^◌};
+
+use crate::{Book, OpenStore, look};
 use mix_base::Shape;
+use replay_disk::{MemRack, Rack};
 use std::alloc::{AllocError, Global};
 use std::process::Abort;
 use std::test::Fail;
@@ -29,6 +31,43 @@ fn log(alloc: Global, tags: &[u8]) -> Result<Vec<u8>, AllocError> {
     Ok(bytes)
 }
 
+// What a look finds on a rack.
+fn looked<R: Rack>(
+    alloc: Global,
+    rack: &mut R,
+    shape: &Shape,
+    limit: u64,
+) -> Result<Book, OpenStore>
+    requires some { 2 ≤ limit }
+    requires limit { limit ≤ 2 ^ 26 }
+    requires shards { 1 ≤ shape.now.shards }
+    requires most { shape.now.shards ≤ 16 }
+    requires index { shape.now.index < shape.now.shards }
+{
+    look(alloc, rack, shape, limit)
+}
+
+// What a look finds on a rack that holds these bytes, for the first of so many shards. The bytes stay.
+fn look_at(
+    rt: &impl Abort,
+    alloc: Global,
+    root: &[u8],
+    logs: (&[u8], &[u8]),
+    shards: u8,
+    limit: u16,
+) -> Result<Result<Book, OpenStore>, Fail> {
+    let one = logs.0.to_vec(alloc)?;
+    let two = logs.1.to_vec(alloc)?;
+    let mut rack = MemRack::holding(alloc, root.to_vec(alloc)?, one, two);
+    let shape = Shape { shards, index: 0 };
+    assert!(rt; (1..=16).contains(&shards) && limit >= 2);
+    let found = looked(alloc, &mut rack, &shape, u64::from(limit));
+    assert_eq!(rt; rack.bytes(0), root);
+    assert_eq!(rt; rack.bytes(1), logs.0);
+    assert_eq!(rt; rack.bytes(2), logs.1);
+    Ok(found)
+}
+
 const fn foreign(area: u8, at: u64) -> OpenStore {
     OpenStore::Foreign { area, at }
 }
@@ -45,17 +84,11 @@ fn expect_refused(
     let root = root(alloc, records)?;
     let one = log(alloc, tags.0)?;
     let two = log(alloc, tags.1)?;
-    let shape = Shape {
-        shards: 1,
-        index: 0,
-    };
-    match read_book(alloc, &root, &one, &two, &shape, u64::from(limit)) {
-        Ok(_) => Err(Fail::from("read")),
-        Err(fault) => {
-            assert_eq!(rt; fault, want);
-            Ok(())
-        }
-    }
+    assert_eq!(rt;
+        look_at(rt, alloc, &root, (&one, &two), 1, limit)?,
+        Err(want)
+    );
+    Ok(())
 }
 
 // A root of these records is refused so.
@@ -90,16 +123,30 @@ fn records_against_those_before(rt: HostRuntime) -> Result<(), Fail> {
 #[test]
 fn roots_without_a_record(rt: HostRuntime) -> Result<(), Fail> {
     let alloc = rt.alloc();
-    let shape = Shape {
-        shards: 1,
+    let none = (b"".as_slice(), b"".as_slice());
+    let long = look_at(&rt, alloc, &[0; 12], none, 1, 2)?;
+    assert_eq!(rt; long, Err(foreign(0, 0)));
+    let book = look_at(&rt, alloc, &[0; 11], none, 1, 2)??;
+    assert_eq!(rt; (book.floor, book.spent, book.root), (0, 0, 0));
+    Ok(())
+}
+
+// A root that was made for the first of four shards, and a rack that nothing was written to.
+#[test]
+fn a_rack_of_another_number_of_shards(rt: HostRuntime) -> Result<(), Fail> {
+    let alloc = rt.alloc();
+    let root = b"\x01\x01\x00\x00\x00\x00\x00\x00\x04\x00\x00".as_slice();
+    let none = (b"".as_slice(), b"".as_slice());
+    let stored = Shape {
+        shards: 4,
         index: 0,
     };
-    match read_book(alloc, &[0; 12], &[], &[], &shape, 2) {
-        Err(fault) => assert_eq!(rt; fault, foreign(0, 0)),
-        Ok(_) => return Err(Fail::from("read")),
-    }
-    let book = read_book(alloc, &[0; 11], &[], &[], &shape, 2)?.summary();
-    assert_eq!(rt; book.root, 0);
+    let other = look_at(&rt, alloc, root, none, 8, 100)?;
+    assert_eq!(rt; other, Err(OpenStore::OtherShape { stored }));
+    let book = look_at(&rt, alloc, root, none, 4, 100)??;
+    assert_eq!(rt; (book.floor, book.spent, book.root), (0, 0, 1));
+    let empty = look_at(&rt, alloc, b"", none, 4, 100)??;
+    assert_eq!(rt; (empty.floor, empty.spent, empty.root), (0, 0, 0));
     Ok(())
 }
 
@@ -133,8 +180,7 @@ fn expect_book(
     let root = root(alloc, records)?;
     let one = log(alloc, tags.0)?;
     let two = log(alloc, tags.1)?;
-    let shape = Shape { shards, index: 0 };
-    let book = read_book(alloc, &root, &one, &two, &shape, 100)?.summary();
+    let book = look_at(rt, alloc, &root, (&one, &two), shards, 100)??;
     assert_eq!(rt; (book.floor, book.spent, book.root), want);
     Ok(())
 }

@@ -8,7 +8,7 @@ use Rattle.spent_store.specs.Root.{IsNear, AreNear, floor_of, floor_after, begun
 use Rattle.spent_store.specs.declared.objections.Objection.TheVariants.{Foreign}
 use Rattle.spent_store.specs.declared.root.RootRecord.{RootRecord}
 use Rattle.spent_store.specs.declared.root.RootRecord.TheVariants.{Made, Begin, Floor, Other}
-use Rattle.spent_store.proofs.StandingOf.{floor_more, begun_more, begins_near, rises}
+use Rattle.spent_store.specs.StandingLaws.{floor_more, begun_more, begins_near, rises}
 
 first_false : (a b : Bool) → (a || b) ≡ false → a ≡ false
 first_false true b neither = absurd (cc)
@@ -48,7 +48,7 @@ only_two floor a b c near_a near_b near_c ab ac bc =
     ]
 
 -- one epoch more
-near_begun : (floor : ℕ) (begun : List ℕ) (epoch : ℕ) → AreNear floor begun → list_any (λ other. other == epoch) begun ≡ false → IsNear floor epoch → AreNear floor (begun ++ epoch ∷ [])
+pub near_begun : (floor : ℕ) (begun : List ℕ) (epoch : ℕ) → AreNear floor begun → list_any (λ other. other == epoch) begun ≡ false → IsNear floor epoch → AreNear floor (begun ++ epoch ∷ [])
 near_begun floor [] epoch near new at = at
 near_begun floor (a ∷ []) epoch near new at = (near, at, eqb-false a epoch (first_false (a == epoch) _ new))
 near_begun floor (a ∷ b ∷ []) epoch near new at =
@@ -76,7 +76,7 @@ kept_two old floor a b near_a near_b differ rising =
           ]
     ]
 
-near_kept : (old floor : ℕ) (begun : List ℕ) → AreNear old begun → old < floor → AreNear floor (filter (λ e. nat_le floor e) begun)
+pub near_kept : (old floor : ℕ) (begun : List ℕ) → AreNear old begun → old < floor → AreNear floor (filter (λ e. nat_le floor e) begun)
 near_kept old floor [] near rising = tt
 near_kept old floor (a ∷ []) near rising = kept_one old floor a near rising
 near_kept old floor (a ∷ b ∷ []) near rising = kept_two old floor a b near.0 near.1 near.2 rising
@@ -97,7 +97,7 @@ near_more front root near right =
     subst (λ (begun : List ℕ). AreNear (floor_of (front ++ root ∷ [])) begun) (sym (begun_more (length front == 0) front root right))
     (subst (λ (floor : ℕ). AreNear floor (begun_after (begun_of front) root)) (sym (floor_more front root)) after)
 
-none_found : (test : Bool) (found : ℕ) (later : Option ℕ) → (if test then Some found else later) ≡ None → (test ≡ false) × (later ≡ None)
+pub none_found : (test : Bool) (found : ℕ) (later : Option ℕ) → (if test then Some found else later) ≡ None → (test ≡ false) × (later ≡ None)
 none_found true found later none = absurd (cc)
 none_found false found later none = (refl, none)
 
@@ -108,7 +108,7 @@ near_all front (root ∷ rest) near none =
     let later = near_all (front ++ root ∷ []) rest (near_more front root near parts.0) parts.1 in
     subst (λ (roots : List RootRecord). AreNear (floor_of roots) (begun_of roots)) (append_assoc front (root ∷ []) rest) later
 
-none_mapped : (place : Option ℕ) → option_map (λ before. Foreign 0 (before * 10 + 1)) place ≡ None → place ≡ None
+pub none_mapped : (place : Option ℕ) → option_map (λ before. Foreign 0 (before * 10 + 1)) place ≡ None → place ≡ None
 none_mapped None none = refl
 none_mapped (Some before) none = absurd (cc)
 

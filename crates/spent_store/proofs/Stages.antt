@@ -1,0 +1,300 @@
+-- What a crash may leave of a store that stands on a rack while one of its areas is written, and what stands there
+-- once it was.
+use Rattle.std.proofs.Common.{◌≡◌, ◌≢◌, inl, inr, ◌⊎◌, ℕ, zero, suc, ◌+◌, ◌%◌, ◌^◌, ◌<◌, ◌==◌, nat_le, Bool, true, false, List, [], ◌∷◌, ◌++◌, length, filter, slice_index_or, Contains, Result, Ok, refl, sym, ◌∙◌, ap, subst, arith}
+use Rattle.std.specs.List.{list_any}
+use Rattle.std.proofs.lemmas.Bool.{cases_lt, cases_eq, cases_Bool, eqb-true, eq-eqb, or_left, or_right, or_cases}
+use Rattle.std.proofs.lemmas.List.{length-append}
+use Rattle.std.proofs.lemmas.List.Folds.{list_any-append}
+use Rattle.mix_base.specs.declared.suites.Shape.{Shape}
+use Rattle.replay_disk.specs.Disk.{Area, Areas, IsImage, area_at}
+use Rattle.replay_disk.specs.Laws.{only_image}
+use Rattle.gate_log.specs.Log.{EachImage, OthersStay, IsOldOrWith}
+use Rattle.gate_log.specs.Records.{records}
+use Rattle.spent_store.specs.BookLaws.{log_bytes-one, log_bytes-two, near_said}
+use Rattle.spent_store.specs.Books.{EpochLog, StoredBook, area_of, log_bytes, begun, has_begun, is_used, book_of}
+use Rattle.spent_store.specs.ChangeLaws.{floor_added, begin_added, tag_added}
+use Rattle.spent_store.specs.Changes.{raised, begun_with, added, retirement_stages}
+use Rattle.spent_store.specs.ClaimLaws.{raised_roots, begun_roots, begun-raised, begun-begun_with, begun-added}
+use Rattle.spent_store.specs.Root.{IsNear, spell_root}
+use Rattle.spent_store.specs.StepLaws.{LogsStay, logs_stay_beside, area_unused, book_stays, floor_step, begin_step, tag_step}
+use Rattle.spent_store.specs.Stores.{StoreState, Stands, Left, OpensToOneOf, opened, as_read, book_in}
+use Rattle.spent_store.specs.TagLogs.{TagLogState, IsAtRest, LogStands, epoch_log}
+use Rattle.spent_store.specs.declared.objections.Objection.{Objection}
+use Rattle.spent_store.specs.declared.root.RootRecord.{RootRecord}
+use Rattle.spent_store.specs.declared.root.RootRecord.TheVariants.{Begin, Floor}
+use Rattle.spent_store.proofs.StoreOpening.{log_bytes_at, rest_kept}
+
+-- ---- among the stages
+
+pub in_one : (a : StoredBook) (read : Result StoredBook Objection) → read ≡ Ok a → Contains (as_read (a ∷ [])) read
+in_one a read is = (0, omega arith, sym is)
+
+pub in_two : (a b : StoredBook) (read : Result StoredBook Objection) → (read ≡ Ok a) ⊎ (read ≡ Ok b) → Contains (as_read (a ∷ b ∷ [])) read
+in_two a b read either = elim either [ inl is ↦ (0, omega arith, sym is) | inr is ↦ (1, omega arith, sym is) ]
+
+-- ---- images of a store that stands
+
+used_at : (k : ℕ) (areas : Areas) (epochs : List ℕ) → ((epoch : ℕ) → list_any (λ other. other == epoch) epochs ≡ true → IsAtRest 32 (area_of epoch) areas)
+    → list_any (λ epoch. area_of epoch == k) epochs ≡ true → IsAtRest 32 k areas
+used_at k areas [] rest used = absurd (cc)
+used_at k areas (epoch ∷ epochs) rest used =
+    elim (or_cases (area_of epoch == k) _ used) [
+      | inl here ↦ subst (λ (area : ℕ). IsAtRest 32 area areas) (eqb-true (area_of epoch) k here) (rest epoch (or_left (epoch == epoch) _ (eq-eqb epoch epoch refl)))
+      | inr later ↦ used_at k areas epochs (λ other there. rest other (or_right (epoch == other) _ there)) later
+    ]
+
+-- an area that rests and stays has its contents as image
+image_same : (size k : ℕ) (areas now : Areas) (image : List ℕ) → IsAtRest size k areas → area_at k now ≡ area_at k areas → IsImage (area_at k now) image → image ≡ (area_at k areas).contents
+image_same size k areas now image rest same is = only_image (area_at k areas).contents image (subst (λ (area : Area). IsImage area image) (same ∙ rest.only) is)
+
+image_of : (areas : Areas) (left : Left areas) (epoch : ℕ) → IsImage (area_at (area_of epoch) areas) (log_bytes left.one left.two epoch)
+image_of areas left epoch =
+    elim (cases_lt (epoch % 2) 1) [
+      | inl even ↦
+          let first : area_of epoch ≡ 1 = omega arith in
+          subst (λ (area : ℕ). IsImage (area_at area areas) (log_bytes left.one left.two epoch)) (sym first) (subst (λ (bytes : List ℕ). IsImage areas.one bytes) (sym (log_bytes-one left.one left.two epoch first)) left.is_one)
+      | inr odd ↦
+          let second : area_of epoch ≡ 2 = omega arith in
+          subst (λ (area : ℕ). IsImage (area_at area areas) (log_bytes left.one left.two epoch)) (sym second) (subst (λ (bytes : List ℕ). IsImage areas.two bytes) (sym (log_bytes-two left.one left.two epoch second)) left.is_two)
+    ]
+
+beside_apart : (epoch : ℕ) → area_of (epoch + 1) ≢ area_of epoch
+beside_apart epoch same = elim (cases_lt (epoch % 2) 1) [ inl even ↦ omega (arith, same) | inr odd ↦ omega (arith, same) ]
+
+module _ (store : StoreState) (areas : Areas) (stands : Stands store areas) where
+  abbrev book : StoredBook
+  book = store.book
+
+  abbrev root : List ℕ
+  root = areas.root.contents
+
+  abbrev one : List ℕ
+  one = areas.one.contents
+
+  abbrev two : List ℕ
+  two = areas.two.contents
+
+  used_rest : (k : ℕ) → is_used k (begun book) ≡ true → IsAtRest 32 k areas
+  used_rest k used = used_at k areas (begun book) stands.logs used
+
+  -- the root is written
+  module _ (now : Areas) (others : OthersStay 0 areas now) where
+    logs_rest : (left : Left now) → LogsStay book one two left.one left.two
+    logs_rest left = record {
+      first = λ used. ap (λ (bytes : List ℕ). records 32 bytes) (image_same 32 1 areas now left.one (used_rest 1 used) (others 1 (omega arith) (λ same. omega (arith, same))) left.is_one);
+      second = λ used. ap (λ (bytes : List ℕ). records 32 bytes) (image_same 32 2 areas now left.two (used_rest 2 used) (others 2 (omega arith) (λ same. omega (arith, same))) left.is_two);
+    }
+
+  pub raising : (floor : ℕ) → length book.roots < store.limit → floor < 2 ^ 64 → book.floor < floor
+      → (now : Areas) → EachImage 0 (λ image. IsOldOrWith (records 9 root) (spell_root (Floor floor)) (records 9 image)) areas now → OpensToOneOf store.shape store.limit (as_read (retirement_stages floor book)) now
+  raising floor fits small above now each left =
+      in_two book (raised floor book) (opened store.shape store.limit now left)
+      (floor_step root one two left.root left.one left.two store.shape store.limit floor book stands.reads stands.made fits small above (logs_rest now each.others left) (each.images left.root left.is_root))
+
+  pub beginning : (epoch : ℕ) → length book.roots < store.limit → epoch < 2 ^ 64 → IsNear book.floor epoch → has_begun epoch book ≡ false → IsAtRest 32 (area_of epoch) areas
+      → records 32 (area_at (area_of epoch) areas).contents ≡ []
+      → (now : Areas) → EachImage 0 (λ image. IsOldOrWith (records 9 root) (spell_root (Begin epoch)) (records 9 image)) areas now → OpensToOneOf store.shape store.limit (as_read (book ∷ begun_with epoch book ∷ [])) now
+  beginning epoch fits small near new rest empty now each left =
+      let stays : area_at (area_of epoch) now ≡ area_at (area_of epoch) areas = each.others (area_of epoch) (omega arith) (λ same. omega (arith, same)) in
+      let none : records 32 (log_bytes left.one left.two epoch) ≡ []
+      = ap (λ (bytes : List ℕ). records 32 bytes) (image_same 32 (area_of epoch) areas now (log_bytes left.one left.two epoch) rest stays (image_of now left epoch)) ∙ empty in
+      in_two book (begun_with epoch book) (opened store.shape store.limit now left)
+      (begin_step root one two left.root left.one left.two store.shape store.limit epoch book stands.reads stands.made fits small near new none (logs_rest now each.others left) (each.images left.root left.is_root))
+
+  -- the area of an epoch is written
+  module _ (epoch : ℕ) (now : Areas) (others : OthersStay (area_of epoch) areas now) (left : Left now) where
+    root_rests : left.root ≡ root
+    root_rests = image_same 9 0 areas now left.root stands.root (others 0 (omega arith) (λ same. omega (arith, same))) left.is_root
+
+    beside_rests : is_used (area_of (epoch + 1)) (begun book) ≡ true → records 32 (log_bytes left.one left.two (epoch + 1)) ≡ records 32 (log_bytes one two (epoch + 1))
+    beside_rests used =
+        let stays : area_at (area_of (epoch + 1)) now ≡ area_at (area_of (epoch + 1)) areas = others (area_of (epoch + 1)) (omega arith) (beside_apart epoch) in
+        ap (λ (bytes : List ℕ). records 32 bytes)
+        (image_same 32 (area_of (epoch + 1)) areas now (log_bytes left.one left.two (epoch + 1)) (used_rest (area_of (epoch + 1)) used) stays (image_of now left (epoch + 1)) ∙ log_bytes_at areas (epoch + 1))
+
+  pub starting : (epoch : ℕ) → IsNear book.floor epoch → has_begun epoch book ≡ false → (now : Areas) → OthersStay (area_of epoch) areas now → OpensToOneOf store.shape store.limit (as_read (book ∷ [])) now
+  starting epoch near new now others left =
+      in_one book (opened store.shape store.limit now left)
+      (book_stays root one two left.root left.one left.two store.shape store.limit book stands.reads stands.made (ap (λ (bytes : List ℕ). records 9 bytes) (root_rests epoch now others left))
+      (logs_stay_beside book epoch one two left.one left.two (near_said root one two store.shape store.limit book stands.reads) near new (beside_rests epoch now others left)))
+
+  pub adding : (epoch : ℕ) (tag : List ℕ) → has_begun epoch book ≡ true → length (records 32 (area_at (area_of epoch) areas).contents) < store.limit
+      → (now : Areas) → EachImage (area_of epoch) (λ image. IsOldOrWith (records 32 (area_at (area_of epoch) areas).contents) tag (records 32 image)) areas now
+      → OpensToOneOf store.shape store.limit (as_read (book ∷ added epoch tag book ∷ [])) now
+  adding epoch tag there fits now each left =
+      let same = log_bytes_at areas epoch in
+      let few = subst (λ (bytes : List ℕ). length (records 32 bytes) < store.limit) same fits in
+      let written = subst (λ (bytes : List ℕ). IsOldOrWith (records 32 bytes) tag (records 32 (log_bytes left.one left.two epoch))) same (each.images (log_bytes left.one left.two epoch) (image_of now left epoch)) in
+      in_two book (added epoch tag book) (opened store.shape store.limit now left)
+      (tag_step root one two left.root left.one left.two store.shape store.limit epoch tag book stands.reads stands.made there few (ap (λ (bytes : List ℕ). records 9 bytes) (root_rests epoch now each.others left))
+      (beside_rests epoch now each.others left) written)
+
+  -- ---- what stands then
+
+  -- each image opens to the book alone
+  pub reads_still : (left : Left areas) → opened store.shape store.limit areas left ≡ Ok book
+  reads_still left =
+      book_stays root one two left.root left.one left.two store.shape store.limit book stands.reads stands.made
+      (ap (λ (bytes : List ℕ). records 9 bytes) (image_same 9 0 areas areas left.root stands.root refl left.is_root)) (logs_rest areas (λ other low apart. refl) left)
+
+  pub standing : OpensToOneOf store.shape store.limit (as_read (book ∷ [])) areas
+  standing left = in_one book (opened store.shape store.limit areas left) (reads_still left)
+
+  some_more : (more : RootRecord) → 0 < length (book.roots ++ more ∷ [])
+  some_more more = omega (arith, length-append book.roots (more ∷ []))
+
+  any_kept : (floor epoch : ℕ) (epochs : List ℕ) → list_any (λ other. other == epoch) (filter (λ e. nat_le floor e) epochs) ≡ true → list_any (λ other. other == epoch) epochs ≡ true
+  any_kept floor epoch [] there = there
+  any_kept floor epoch (first ∷ epochs) there =
+      elim (cases_Bool (nat_le floor first)) [
+        | inl kept ↦
+            elim (or_cases (first == epoch) (list_any (λ other. other == epoch) (filter (λ e. nat_le floor e) epochs)) (rw kept at there)) [
+              | inl here ↦ or_left (first == epoch) _ here
+              | inr later ↦ or_right (first == epoch) _ (any_kept floor epoch epochs later)
+            ]
+        | inr dropped ↦ or_right (first == epoch) _ (any_kept floor epoch epochs (rw dropped at there))
+      ]
+
+  reads_beside : (next : Areas) (found : Result StoredBook Objection) → OthersStay 0 areas next → book_of next.root.contents one two store.shape store.limit ≡ found → book_in next store.shape store.limit ≡ found
+  reads_beside next found others reads =
+      let first : next.one ≡ areas.one = others 1 (omega arith) (λ same. omega (arith, same)) in
+      let second : next.two ≡ areas.two = others 2 (omega arith) (λ same. omega (arith, same)) in
+      (λ i. book_of next.root.contents (first i).contents (second i).contents store.shape store.limit) ∙ reads
+
+  log_beside : (epoch : ℕ) (next : Areas) → OthersStay 0 areas next → IsAtRest 32 (area_of epoch) areas → IsAtRest 32 (area_of epoch) next
+  log_beside epoch next others rest = rest_kept 32 (area_of epoch) areas next (others (area_of epoch) (omega arith) (λ same. omega (arith, same))) rest
+
+  pub raised_stands : (floor : ℕ) → length book.roots < store.limit → floor < 2 ^ 64 → book.floor < floor
+      → (next : Areas) → OthersStay 0 areas next → IsAtRest 9 0 next → records 9 next.root.contents ≡ records 9 root ++ spell_root (Floor floor) ∷ [] → Stands (record store { book = raised floor book }) next
+  raised_stands floor fits small above next others rest more = record {
+    root = rest;
+    logs = λ epoch there. log_beside epoch next others (stands.logs epoch (any_kept floor epoch (begun book) (subst (λ (epochs : List ℕ). list_any (λ other. other == epoch) epochs ≡ true) (begun-raised floor book above) there)));
+    reads = reads_beside next (Ok (raised floor book)) others (floor_added root one two next.root.contents store.shape store.limit floor book stands.reads stands.made fits small above more);
+    made = subst (λ (roots : List RootRecord). 0 < length roots) (sym (raised_roots floor book above)) (some_more (Floor floor));
+  }
+
+  pub started_stands : (epoch : ℕ) → IsNear book.floor epoch → has_begun epoch book ≡ false → (next : Areas) → OthersStay (area_of epoch) areas next → Stands store next
+  started_stands epoch near new next others =
+      let near_book = near_said root one two store.shape store.limit book stands.reads in
+      let unused = area_unused book.floor epoch (begun book) near_book near new in
+      let stays : (other : ℕ) → has_begun other book ≡ true → area_at (area_of other) next ≡ area_at (area_of other) areas
+      = λ other there. others (area_of other) (omega arith) (λ same. let used = subst (λ (area : ℕ). is_used area (begun book) ≡ true) same (uses other (begun book) there) in cc) in
+      record {
+        root = rest_kept 9 0 areas next (others 0 (omega arith) (λ same. omega (arith, same))) stands.root;
+        logs = λ other there. rest_kept 32 (area_of other) areas next (stays other there) (stands.logs other there);
+        reads = book_stays root one two next.root.contents next.one.contents next.two.contents store.shape store.limit book stands.reads stands.made
+            (ap (λ (area : Area). records 9 area.contents) (others 0 (omega arith) (λ same. omega (arith, same))))
+            (logs_stay_beside book epoch one two next.one.contents next.two.contents near_book near new
+            (λ used. ap (λ (bytes : List ℕ). records 32 bytes)
+            (sym (log_bytes_at next (epoch + 1)) ∙ ap (λ (area : Area). area.contents) (others (area_of (epoch + 1)) (omega arith) (beside_apart epoch)) ∙ log_bytes_at areas (epoch + 1))));
+        made = stands.made;
+      }
+    where
+      uses : (epoch : ℕ) (epochs : List ℕ) → list_any (λ other. other == epoch) epochs ≡ true → list_any (λ other. area_of other == area_of epoch) epochs ≡ true
+      uses epoch [] there = there
+      uses epoch (first ∷ epochs) there =
+          elim (or_cases (first == epoch) _ there) [
+            | inl here ↦ or_left (area_of first == area_of epoch) _ (eq-eqb (area_of first) (area_of epoch) (ap area_of (eqb-true first epoch here)))
+            | inr later ↦ or_right (area_of first == area_of epoch) _ (uses epoch epochs later)
+          ]
+
+  pub begun_stands : (epoch : ℕ) → length book.roots < store.limit → epoch < 2 ^ 64 → IsNear book.floor epoch → has_begun epoch book ≡ false → IsAtRest 32 (area_of epoch) areas
+      → records 32 (area_at (area_of epoch) areas).contents ≡ []
+      → (next : Areas) → OthersStay 0 areas next → IsAtRest 9 0 next → records 9 next.root.contents ≡ records 9 root ++ spell_root (Begin epoch) ∷ [] → Stands (record store { book = begun_with epoch book }) next
+  begun_stands epoch fits small near new log empty next others rest more = record {
+    root = rest;
+    logs = λ other there.
+        elim (or_cases (has_begun other book) (list_any (λ e. e == other) (epoch ∷ []))
+        (sym (list_any-append (λ e. e == other) (begun book) (epoch ∷ [])) ∙ subst (λ (epochs : List ℕ). list_any (λ e. e == other) epochs ≡ true) (begun-begun_with epoch book new) there)) [
+          | inl before ↦ log_beside other next others (stands.logs other before)
+          | inr here ↦
+              elim (or_cases (epoch == other) false here) [
+                | inl is ↦ subst (λ (e : ℕ). IsAtRest 32 (area_of e) next) (eqb-true epoch other is) (log_beside epoch next others log)
+                | inr never ↦ absurd (cc)
+              ]
+        ];
+    reads = reads_beside next (Ok (begun_with epoch book)) others
+        (begin_added root one two next.root.contents store.shape store.limit epoch book stands.reads stands.made fits small near new (ap (λ (bytes : List ℕ). records 32 bytes) (sym (log_bytes_at areas epoch)) ∙ empty) more);
+    made = subst (λ (roots : List RootRecord). 0 < length roots) (sym (begun_roots epoch book new)) (some_more (Begin epoch));
+  }
+
+  pub added_stands : (epoch : ℕ) (tag : List ℕ) → has_begun epoch book ≡ true → length (records 32 (area_at (area_of epoch) areas).contents) < store.limit
+      → (next : Areas) → OthersStay (area_of epoch) areas next → IsAtRest 32 (area_of epoch) next
+      → records 32 (area_at (area_of epoch) next).contents ≡ records 32 (area_at (area_of epoch) areas).contents ++ tag ∷ [] → Stands (record store { book = added epoch tag book }) next
+  added_stands epoch tag there fits next others rest more =
+      let same_root : next.root ≡ areas.root = others 0 (omega arith) (λ same. omega (arith, same)) in
+      let before = log_bytes_at areas epoch in
+      let after = log_bytes_at next epoch in
+      let few = subst (λ (bytes : List ℕ). length (records 32 bytes) < store.limit) before fits in
+      let written : records 32 (log_bytes next.one.contents next.two.contents epoch) ≡ records 32 (log_bytes one two epoch) ++ tag ∷ []
+      = ap (λ (bytes : List ℕ). records 32 bytes) (sym after) ∙ more ∙ ap (λ (bytes : List ℕ). records 32 bytes ++ tag ∷ []) before in
+      record {
+        root = rest_kept 9 0 areas next same_root stands.root;
+        logs = λ other begun_there.
+            let was : has_begun other book ≡ true = subst (λ (epochs : List ℕ). list_any (λ e. e == other) epochs ≡ true) (begun-added epoch tag book) begun_there in
+            elim (cases_eq (area_of other) (area_of epoch)) [
+              | inl is ↦ subst (λ (area : ℕ). IsAtRest 32 area next) (sym is) rest
+              | inr isnt ↦ rest_kept 32 (area_of other) areas next (others (area_of other) (omega arith) isnt) (stands.logs other was)
+            ];
+        reads = (λ i. book_of (same_root i).contents next.one.contents next.two.contents store.shape store.limit)
+            ∙ tag_added root one two next.one.contents next.two.contents store.shape store.limit epoch tag book stands.reads there few written
+            (λ used. ap (λ (bytes : List ℕ). records 32 bytes)
+            (sym (log_bytes_at next (epoch + 1)) ∙ ap (λ (area : Area). area.contents) (others (area_of (epoch + 1)) (omega arith) (beside_apart epoch)) ∙ log_bytes_at areas (epoch + 1)));
+        made = stands.made;
+      }
+
+-- ---- one log of a store that stands
+
+module _ (store : StoreState) (areas : Areas) (stands : Stands store areas) (old : TagLogState) (stood : LogStands old areas) (tag : List ℕ)
+    (there : has_begun old.epoch store.book ≡ true) (fits : length old.tags < store.limit) where
+  few : length (records 32 (area_at (area_of old.epoch) areas).contents) < store.limit
+  few = subst (λ (tags : List (List ℕ)). length tags < store.limit) (sym stood.read) fits
+
+  pub adding_log : (now : Areas) → EachImage (area_of old.epoch) (λ image. IsOldOrWith old.tags tag (records 32 image)) areas now
+      → OpensToOneOf store.shape store.limit (as_read (store.book ∷ added old.epoch tag store.book ∷ [])) now
+  adding_log now each =
+      adding store areas stands old.epoch tag there few now
+      (subst (λ (tags : List (List ℕ)). EachImage (area_of old.epoch) (λ image. IsOldOrWith tags tag (records 32 image)) areas now) (sym stood.read) each)
+
+  pub added_log_stands : (log : TagLogState) (next : Areas) → OthersStay (area_of old.epoch) areas next → LogStands log next → epoch_log log ≡ record { epoch = old.epoch; tags = old.tags ++ tag ∷ [] }
+      → Stands (record store { book = added old.epoch tag store.book }) next
+  added_log_stands log next others stood_next is =
+      let same : log.epoch ≡ old.epoch = ap (λ (l : EpochLog). l.epoch) is in
+      added_stands store areas stands old.epoch tag there few next others (subst (λ (epoch : ℕ). IsAtRest 32 (area_of epoch) next) same stood_next.rest)
+      (subst (λ (epoch : ℕ). records 32 (area_at (area_of epoch) next).contents ≡ log.tags) same stood_next.read ∙ ap (λ (l : EpochLog). l.tags) is ∙ ap (λ (tags : List (List ℕ)). tags ++ tag ∷ []) (sym stood.read))
+
+-- what isn't told of the rack may change
+pub stands_with : (store : StoreState) (areas : Areas) (is_sound : Bool) (spare : ℕ) → Stands store areas → Stands (record store { is_sound = is_sound; spare = spare }) areas
+stands_with store areas is_sound spare stands = record { root = stands.root; logs = stands.logs; reads = stands.reads; made = stands.made }
+
+-- ---- among more stages
+
+pub cons_cases : {X : Type 0} (y : X) (ys : List X) (x : X) (k : ℕ) → k < length (y ∷ ys) → slice_index_or (y ∷ ys) k x ≡ x → (y ≡ x) ⊎ Contains ys x
+cons_cases y ys x zero within is = inl is
+cons_cases y ys x (suc k) within is = inr (k, omega arith, is)
+
+pub contains_tail : {X : Type 0} (y : X) (ys : List X) (x : X) → Contains ys x → Contains (y ∷ ys) x
+contains_tail y ys x there = (suc there.0, (let within = there.1 in omega arith), there.2)
+
+pub contains_front : {X : Type 0} (xs ys : List X) (x : X) → Contains xs x → Contains (xs ++ ys) x
+contains_front [] ys x there = absurd (let within = there.1 in omega arith)
+contains_front (y ∷ xs) ys x there =
+    elim (cons_cases y xs x there.0 there.1 there.2) [
+      | inl is ↦ (0, omega arith, is)
+      | inr later ↦ contains_tail y (xs ++ ys) x (contains_front xs ys x later)
+    ]
+
+module _ (shape : Shape) (limit : ℕ) where
+  -- stages to come
+  pub opens_front : (stages more : List StoredBook) (areas : Areas) → OpensToOneOf shape limit (as_read stages) areas → OpensToOneOf shape limit (as_read stages ++ as_read more) areas
+  opens_front stages more areas opens left = contains_front (as_read stages) (as_read more) (opened shape limit areas left) (opens left)
+
+  -- a stage before
+  pub opens_behind : (book : StoredBook) (stages : List StoredBook) (areas : Areas) → OpensToOneOf shape limit (as_read stages) areas → OpensToOneOf shape limit (as_read (book ∷ stages)) areas
+  opens_behind book stages areas opens left = contains_tail (Ok book) (as_read stages) (opened shape limit areas left) (opens left)
+
+-- a log while the root is written
+pub log_stands_beside : (log : TagLogState) (old new : Areas) → OthersStay 0 old new → LogStands log old → LogStands log new
+log_stands_beside log old new others stood =
+    let same : area_at (area_of log.epoch) new ≡ area_at (area_of log.epoch) old = others (area_of log.epoch) (omega arith) (λ is. omega (arith, is)) in
+    record { rest = rest_kept 32 (area_of log.epoch) old new same stood.rest; read = ap (λ (area : Area). records 32 area.contents) same ∙ stood.read }

@@ -1,0 +1,163 @@
+// The log of an epoch: its area on the rack, and its tags in memory, in the order in which they were spent. Tags are
+// looked for one by one.
+ghost use Rattle.std.specs.Prelude.{◌≡◌, ◌≢◌, ℕ, ◌+◌, ◌^◌, ◌<◌, ◌≤◌, [], ◌∷◌, ◌++◌, length, true, false, IsTrue, vec_len, vec_capacity, IfOk, OnOk, OnErr, IfErr, IsErrOf};
+ghost use Rattle.std.specs.List.{list_any};
+ghost use Rattle.std.specs.Str.{bytes_eq};
+ghost use Rattle.mix_base.specs.Faults.{Rose};
+ghost use Rattle.replay_disk.specs.Disk.{area_at, contents_of, CountsFault};
+ghost use Rattle.replay_disk.specs.Moments.{AtEachMoment};
+ghost use Rattle.gate_log.specs.Log.{EachImage, OthersStay, IsOldOrWith, AreOfAnImage};
+ghost use Rattle.gate_log.specs.Records.{records};
+ghost use Rattle.spent_store.specs.Answers.{IsUnread};
+ghost use Rattle.spent_store.specs.Books as books;
+ghost use Rattle.spent_store.specs.Books.{EpochLog, area_of};
+ghost use Rattle.spent_store.specs.TagLogs.{TagLogState, LogStands, epoch_log};
+
+use crate::answers::OpenStore;
+use crate::known::{KnownLog, distinct_count, has_tag};
+use crate::logs::open_log;
+use gate_log::{GateLog, LogAppend};
+use mix_base::{Failed, Memory};
+use replay_disk::Rack;
+use std::alloc::Global;
+use std::marker::Model;
+
+/// The area that an epoch's log stands in: 1 for an even number, and 2 for an odd one.
+fn area_of_epoch(epoch: u64) -> u8
+    ensures value { result ≡ area_of epoch }
+    ensures low { result < 3 }
+{
+    if epoch % 2 == 0 { 1 } else { 2 }
+}
+
+/// An epoch's log.
+#[derive(Drop)]
+pub struct TagLog {
+    epoch: u64,
+    tags: Vec<[u8; 32]>,
+    log: GateLog,
+}
+
+impl Model for TagLog {
+    ghost use Rattle.std.specs.Prelude.{◌≡◌, ◌-◌, ◌^◌, ◌≤◌, vec_len, vec_capacity};
+    ghost use Rattle.spent_store.specs.Books.{area_of};
+    ghost use Rattle.spent_store.specs.TagLogs.{TagLogState};
+
+    ghost Value = { TagLogState };
+
+    ghost view = { λ l. record { epoch = l.epoch; tags = l.tags.items; limit = l.log.limit; is_sound = l.log.sound; spare = vec_capacity l.tags - vec_len l.tags } };
+
+    ghost invariant = { λ l. (l.log.area ≡ area_of l.epoch) × (l.log.size ≡ 32) × (l.log.count ≡ vec_len l.tags) × (l.log.limit ≤ 2 ^ 26) × (l.log.count ≤ l.log.limit) };
+}
+
+impl TagLog {
+    /// Opens the log of an epoch whose tags were read, at most `limit`, 1 to 2^26.
+    pub fn open<R: Rack>(
+        alloc: Global,
+        rack: &mut R,
+        known: KnownLog,
+        limit: u64,
+    ) -> Result<TagLog, OpenStore>
+        requires limit { limit ≤ 2 ^ 26 }
+        requires fits { length known.tags ≤ limit }
+        requires read { R.tells → records 32 (contents_of (area_of known.epoch) (R.state rack.old)) ≡ known.tags }
+        ensures log { IfOk result (λ log. log ≡ record { epoch = known.epoch; tags = known.tags; limit = limit; is_sound = true; spare = log.spare }) }
+        ensures stands { R.tells → IfOk result (λ log. LogStands log (R.state rack.new).areas) }
+        ensures unread { R.tells → IfErr result IsUnread }
+        ensures each_moment { R.tells → AtEachMoment (EachImage (area_of known.epoch) (λ image. AreOfAnImage (area_of known.epoch) 32 (R.state rack.old).areas (records 32 image)) (R.state rack.old).areas) (R.state rack.old) (R.state rack.new) }
+        ensures failed { IsErrOf result OpenStore.Failed → Rose (R.state rack.old).faults (R.state rack.new).faults }
+        ensures no_fault { ¬ IsErrOf result OpenStore.Failed → (R.state rack.new).faults ≡ (R.state rack.old).faults }
+        ensures arms { (R.state rack.new).arms ≡ (R.state rack.old).arms }
+        ensures crashes { (R.state rack.new).crashes ≡ (R.state rack.old).crashes }
+    {
+        let (epoch, tags) = known.into_parts();
+        let log = open_log::<R, 32>(alloc, rack, area_of_epoch(epoch), limit, tags.len() as u64)?;
+        Ok(TagLog { epoch, tags, log })
+    }
+
+    /// Takes the area of an epoch for a log without tags, whatever stood there. `tags` is empty, and its room is the
+    /// log's. Asks a limit of 1 to 2^26, and room for one byte. Takes no memory.
+    pub fn start<R: Rack>(
+        rack: &mut R,
+        epoch: u64,
+        limit: u64,
+        tags: Vec<[u8; 32]>,
+    ) -> Result<TagLog, Failed>
+        requires limit { limit ≤ 2 ^ 26 }
+        requires empty { tags.items ≡ [] }
+        requires room { R.tells → 1 ≤ (R.state rack.old).room }
+        ensures log { IfOk result (λ log. log ≡ record { epoch = epoch; tags = []; limit = limit; is_sound = true; spare = vec_capacity tags }) }
+        ensures stands { R.tells → IfOk result (λ log. LogStands log (R.state rack.new).areas) }
+        ensures others { R.tells → AtEachMoment (OthersStay (area_of epoch) (R.state rack.old).areas) (R.state rack.old) (R.state rack.new) }
+        ensures room { R.tells → (R.state rack.old).room ≤ (R.state rack.new).room + 1 }
+        ensures fault { CountsFault (R.state rack.old) (R.state rack.new) result }
+    {
+        let log = GateLog::start(rack, area_of_epoch(epoch), 32, limit)?;
+        Ok(TagLog { epoch, tags, log })
+    }
+
+    /// Spends a tag. Asks a sound log that stands on the rack and has fewer tags than it may have, and room for one in
+    /// memory and for 34 bytes on the rack. Takes no memory.
+    pub fn append<R: Rack>(&mut self, rack: &mut R, tag: &[u8; 32]) -> Result<(), Failed>
+        requires sound { IsTrue self.old.is_sound }
+        requires fits { length self.old.tags < self.old.limit }
+        requires spare { 0 < self.old.spare }
+        requires stands { R.tells → LogStands self.old (R.state rack.old).areas }
+        requires room { R.tells → 34 ≤ (R.state rack.old).room }
+        ensures ok { OnOk result (self.new ≡ record self.old { tags = self.old.tags ++ tag.now ∷ []; spare = self.new.spare }) }
+        ensures stands { R.tells → OnOk result (LogStands self.new (R.state rack.new).areas) }
+        ensures each_moment { R.tells → AtEachMoment (EachImage (area_of self.old.epoch) (λ image. IsOldOrWith self.old.tags tag.now (records 32 image)) (R.state rack.old).areas) (R.state rack.old) (R.state rack.new) }
+        ensures room { R.tells → (R.state rack.old).room ≤ (R.state rack.new).room + 34 }
+        ensures failed { OnErr result (self.new ≡ record self.old { is_sound = false }) }
+        ensures fault { CountsFault (R.state rack.old) (R.state rack.new) result }
+    {
+        match self.log.append(rack, tag.as_slice()) {
+            Ok(()) => {
+                self.tags.push_reserved(*tag);
+                Ok(())
+            }
+            Err(LogAppend::Failed) => Err(Failed),
+            Err(LogAppend::LogFull) => unreachable!(),
+        }
+    }
+
+    /// Makes room in memory for one tag more.
+    pub fn reserve(&mut self) -> Result<(), Memory>
+        ensures ok { OnOk result (0 < self.new.spare) }
+        ensures same { self.new ≡ record self.old { spare = self.new.spare } }
+        ensures no_lower { self.old.spare ≤ self.new.spare }
+    {
+        self.tags.reserve(1)?;
+        Ok(())
+    }
+
+    /// The epoch.
+    pub fn epoch(&self) -> u64
+        ensures { result ≡ self.now.epoch }
+    {
+        self.epoch
+    }
+
+    /// How many tags are spent in the epoch.
+    pub fn len(&self) -> u64
+        ensures count { result ≡ length self.now.tags }
+        ensures most { result ≤ 2 ^ 26 }
+    {
+        self.log.count()
+    }
+
+    /// Whether a tag is spent in the epoch.
+    pub fn has(&self, tag: &[u8; 32]) -> bool
+        ensures { result ≡ list_any (λ other. bytes_eq other tag.now) self.now.tags }
+    {
+        has_tag(&self.tags, tag)
+    }
+
+    /// How many different tags are spent in the epoch.
+    pub fn spent(&self) -> u64
+        ensures value { result ≡ books.distinct_count self.now.tags }
+        ensures bound { result ≤ 2 ^ 26 }
+    {
+        distinct_count(&self.tags)
+    }
+}
