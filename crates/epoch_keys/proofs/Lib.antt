@@ -1,2 +1,2 @@
 pub mod LiveEpochs
-pub mod Members
+pub mod Rings

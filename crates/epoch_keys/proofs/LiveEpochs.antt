@@ -1,12 +1,12 @@
--- The list of live epochs has each epoch that is live, and no other: beside the current one only a neighbour can be.
-use Rattle.std.proofs.Common.{◌≡◌, ℕ, ◌+◌, ◌-◌, ◌*◌, ◌%◌, ◌<◌, ◌≤◌, ◌==◌, ◌&&◌, ◌↔◌, nat_le, nat_lt, not, Bool, true, false, IsTrue, List, [], ◌∷◌, inl, inr, refl, sym, subst, arith}
+-- The list of live epochs has each epoch that is live, and no other: beside the current one only one neighbour can be.
+use Rattle.std.proofs.Common.{◌≡◌, ℕ, zero, suc, ◌+◌, ◌-◌, ◌*◌, ◌%◌, ◌<◌, ◌≤◌, ◌&&◌, ◌↔◌, nat_le, nat_lt, Bool, true, false, IsTrue, [], ◌∷◌, ◌⊎◌, inl, inr, refl, sym, subst, arith}
 use Rattle.std.specs.List.{Contains, filter}
 use Rattle.std.proofs.Math.Nat.{div-add-mod, mod-lt, mul-le-mul_right}
 use Rattle.std.specs.Cmp.Derive.{both_true}
-use Rattle.std.proofs.lemmas.Bool.{cases_lt, cases_eq, eqb-true, ltb-true, lt-ltb, leb-true, le-leb}
+use Rattle.std.proofs.lemmas.Bool.{cases_lt, cases_eq, ltb-true, lt-ltb, leb-true, le-leb}
 use Rattle.std.proofs.lemmas.List.Elements.{filter_passes, All-contains}
-use Rattle.epoch_keys.proofs.Members.{Contains-cons_cases, Contains-filter, Contains-head, Contains-tail}
-use Rattle.epoch_keys.specs.Epochs.{EpochTimes, InRange, is_live, current, live_epochs}
+use Rattle.mix_base.proofs.Members.{Contains-cons_cases, Contains-filter, Contains-head, Contains-tail}
+use Rattle.epoch_keys.specs.Epochs.{EpochTimes, InRange, is_live, current, neighbours, live_epochs}
 
 -- a moment lies in its current epoch
 in_current : (times : EpochTimes) (moment : ℕ) → InRange times → (current times moment * times.epoch ≤ moment) × (moment < current times moment * times.epoch + times.epoch)
@@ -31,6 +31,17 @@ live_facts times epoch moment live =
 
 facts_live : (times : EpochTimes) (epoch moment : ℕ) → epoch * times.epoch ≤ moment + times.grace → moment < (epoch + 1) * times.epoch + times.grace → is_live times epoch moment ≡ true
 facts_live times epoch moment begun lasts = both_true (le-leb _ _ begun) (lt-ltb _ _ lasts)
+
+is_false : (b : Bool) → (b ≡ true → ⊥) → b ≡ false
+is_false true never = absurd (never refl)
+is_false false never = refl
+
+-- what it is not to be live
+not_begun : (times : EpochTimes) (epoch moment : ℕ) → moment + times.grace < epoch * times.epoch → is_live times epoch moment ≡ false
+not_begun times epoch moment early = is_false _ (λ live. omega (arith, early, (live_facts times epoch moment live).0))
+
+long_ended : (times : EpochTimes) (epoch moment : ℕ) → (epoch + 1) * times.epoch + times.grace ≤ moment → is_live times epoch moment ≡ false
+long_ended times epoch moment late = is_false _ (λ live. omega (arith, late, (live_facts times epoch moment live).1))
 
 -- the current epoch is live
 current_live : (times : EpochTimes) (moment : ℕ) → InRange times → is_live times (current times moment) moment ≡ true
@@ -57,51 +68,118 @@ not_far_above times epoch moment range live =
       | inr near ↦ near
     ]
 
--- a test that isn't true
-other_test : (b : Bool) → (b ≡ true → ⊥) → not b ≡ true
-other_test true never = absurd (never refl)
-other_test false never = refl
+-- the epoch before another, and the one after it, are its neighbours
+neighbour_listed : (middle epoch : ℕ) → (epoch + 1 ≡ middle) ⊎ (middle + 1 ≡ epoch) → Contains (neighbours middle) epoch
+neighbour_listed zero epoch (inl before) = absurd (omega (arith, before))
+neighbour_listed zero epoch (inr after) =
+    let same : 1 ≡ epoch = omega (arith, after) in subst (λ (e : ℕ). Contains (1 ∷ []) e) same (Contains-head 1 [])
+neighbour_listed (suc middle) epoch (inl before) =
+    let same : middle ≡ epoch = omega (arith, before) in
+    subst (λ (e : ℕ). Contains (middle ∷ suc (suc middle) ∷ []) e) same (Contains-head middle (suc (suc middle) ∷ []))
+neighbour_listed (suc middle) epoch (inr after) =
+    let same : suc (suc middle) ≡ epoch = omega (arith, after) in
+    subst (λ (e : ℕ). Contains (middle ∷ suc (suc middle) ∷ []) e) same
+    (Contains-tail middle (suc (suc middle) ∷ []) (suc (suc middle)) (Contains-head (suc (suc middle)) []))
 
--- a number that isn't another, as a test
-differs : (a b : ℕ) → (a ≡ b → ⊥) → not (a == b) ≡ true
-differs a b other = other_test (a == b) (λ same. other (eqb-true a b same))
-
--- a live epoch other than the current one is its neighbour in the list
-neighbour_listed : (times : EpochTimes) (epoch moment : ℕ) → InRange times → is_live times epoch moment ≡ true → (epoch ≡ current times moment → ⊥)
-    → Contains ((current times moment - 1) ∷ (current times moment + 1) ∷ []) epoch
-neighbour_listed times epoch moment range live other =
+-- a live epoch other than the current one is a neighbour of it
+near : (times : EpochTimes) (epoch moment : ℕ) → InRange times → is_live times epoch moment ≡ true → (epoch ≡ current times moment → ⊥)
+    → (epoch + 1 ≡ current times moment) ⊎ (current times moment + 1 ≡ epoch)
+near times epoch moment range live other =
     let below = not_far_below times epoch moment range live in
     let above = not_far_above times epoch moment range live in
     elim (cases_lt epoch (current times moment)) [
-      | inl less ↦
-          let same : current times moment - 1 ≡ epoch = omega (arith, less, below) in
-          subst (λ (e : ℕ). Contains ((current times moment - 1) ∷ (current times moment + 1) ∷ []) e) same (Contains-head (current times moment - 1) ((current times moment + 1) ∷ []))
-      | inr more ↦
-          elim (cases_lt (current times moment) epoch) [
-            | inl greater ↦
-                let same : current times moment + 1 ≡ epoch = omega (arith, greater, above) in
-                subst (λ (e : ℕ). Contains ((current times moment - 1) ∷ (current times moment + 1) ∷ []) e) same
-                (Contains-tail (current times moment - 1) ((current times moment + 1) ∷ []) (current times moment + 1) (Contains-head (current times moment + 1) []))
-            | inr not_greater ↦ absurd (other (omega (arith, more, not_greater)))
-          ]
+      | inl less ↦ inl (omega (arith, less, below))
+      | inr more ↦ elim (cases_lt (current times moment) epoch) [
+        | inl greater ↦ inr (omega (arith, greater, above))
+        | inr not_greater ↦ absurd (other (omega (arith, more, not_greater)))
+      ]
     ]
 
 -- the epochs of the list are those that are live
 pub live_exactly : (times : EpochTimes) (moment : ℕ) → InRange times → (epoch : ℕ) → IsTrue (is_live times epoch moment) ↔ Contains (live_epochs times moment) epoch
 live_exactly times moment range epoch =
-    let test : ℕ → Bool = λ e. is_live times e moment && not (e == current times moment) in
-    let near : List ℕ = (current times moment - 1) ∷ (current times moment + 1) ∷ [] in (
-      λ live. elim (cases_eq (current times moment) epoch) [
-        | inl same ↦ subst (λ (e : ℕ). Contains (live_epochs times moment) e) same (Contains-head (current times moment) (filter test near))
+    let test : ℕ → Bool = λ e. is_live times e moment in
+    let middle : ℕ = current times moment in (
+      λ live. elim (cases_eq middle epoch) [
+        | inl same ↦ subst (λ (e : ℕ). Contains (live_epochs times moment) e) same (Contains-head middle (filter test (neighbours middle)))
         | inr other ↦
-            Contains-tail (current times moment) (filter test near) epoch
-            (Contains-filter test near epoch (neighbour_listed times epoch moment range live (λ same. other (sym same)))
-            (both_true live (differs epoch (current times moment) (λ same. other (sym same)))))
+            Contains-tail middle (filter test (neighbours middle)) epoch
+            (Contains-filter test (neighbours middle) epoch
+            (neighbour_listed middle epoch (near times epoch moment range live (λ same. other (sym same)))) live)
       ],
-      λ listed. elim (Contains-cons_cases (current times moment) (filter test near) epoch listed) [
+      λ listed. elim (Contains-cons_cases middle (filter test (neighbours middle)) epoch listed) [
         | inl same ↦ subst (λ (e : ℕ). is_live times e moment ≡ true) same (current_live times moment range)
-        | inr later ↦
-            (both_parts (is_live times epoch moment) (not (epoch == current times moment))
-            (All-contains (λ (e : ℕ). test e ≡ true) (filter test near) epoch (filter_passes test near) later)).0
+        | inr later ↦ All-contains (λ (e : ℕ). test e ≡ true) (filter test (neighbours middle)) epoch (filter_passes test (neighbours middle)) later
       ],
     )
+
+-- of two entries, those that pass a test
+keeps_first : (test : ℕ → Bool) (a b : ℕ) → test a ≡ true → test b ≡ false → filter test (a ∷ b ∷ []) ≡ a ∷ []
+keeps_first test a b first second = rw (first, second)
+
+keeps_second : (test : ℕ → Bool) (a b : ℕ) → test a ≡ false → test b ≡ true → filter test (a ∷ b ∷ []) ≡ b ∷ []
+keeps_second test a b first second = rw (first, second)
+
+keeps_neither : (test : ℕ → Bool) (a b : ℕ) → test a ≡ false → test b ≡ false → filter test (a ∷ b ∷ []) ≡ []
+keeps_neither test a b first second = rw (first, second)
+
+-- the moment lies in this epoch
+abbrev LiesIn : EpochTimes → ℕ → ℕ → Type 0
+LiesIn times epoch moment = (epoch * times.epoch ≤ moment) × (moment < epoch * times.epoch + times.epoch)
+
+-- which neighbour is live: that before within the grace of its end, that after within the grace of its beginning
+before_live : (times : EpochTimes) (middle moment : ℕ) → InRange times → LiesIn times middle moment → 0 < middle
+    → moment < middle * times.epoch + times.grace → filter (λ e. is_live times e moment) (neighbours middle) ≡ (middle - 1) ∷ []
+before_live times zero moment range lies positive short = absurd (omega (arith, positive))
+before_live times (suc before) moment range lies positive short =
+    let small = short_grace times range in
+    let same : suc before - 1 ≡ before = omega arith in
+    rw same (keeps_first (λ e. is_live times e moment) before (suc (suc before))
+    (facts_live times before moment (omega (arith, lies.0)) (omega (arith, short)))
+    (not_begun times (suc (suc before)) moment (omega (arith, short, small, range.quarter, range.low))))
+
+after_live : (times : EpochTimes) (middle moment : ℕ) → InRange times → LiesIn times middle moment
+    → ((0 < middle) × (moment < middle * times.epoch + times.grace) → ⊥) → middle * times.epoch + times.epoch ≤ moment + times.grace
+    → filter (λ e. is_live times e moment) (neighbours middle) ≡ (middle + 1) ∷ []
+after_live times zero moment range lies late soon =
+    rw (facts_live times 1 moment (omega (arith, soon)) (omega (arith, lies.1)))
+after_live times (suc before) moment range lies late soon =
+    let ended : suc before * times.epoch + times.grace ≤ moment =
+    elim (cases_lt moment (suc before * times.epoch + times.grace)) [ inl short ↦ absurd (late (omega arith, short)) | inr long ↦ long ] in
+    let same : suc before + 1 ≡ suc (suc before) = omega arith in
+    rw same (keeps_second (λ e. is_live times e moment) before (suc (suc before))
+    (long_ended times before moment (omega (arith, ended)))
+    (facts_live times (suc (suc before)) moment (omega (arith, soon)) (omega (arith, lies.1))))
+
+alone_live : (times : EpochTimes) (middle moment : ℕ) → InRange times → LiesIn times middle moment
+    → ((0 < middle) × (moment < middle * times.epoch + times.grace) → ⊥) → moment + times.grace < middle * times.epoch + times.epoch
+    → filter (λ e. is_live times e moment) (neighbours middle) ≡ []
+alone_live times zero moment range lies late early =
+    rw (not_begun times 1 moment (omega (arith, early)))
+alone_live times (suc before) moment range lies late early =
+    let ended : suc before * times.epoch + times.grace ≤ moment =
+    elim (cases_lt moment (suc before * times.epoch + times.grace)) [ inl short ↦ absurd (late (omega arith, short)) | inr long ↦ long ] in
+    keeps_neither (λ e. is_live times e moment) before (suc (suc before))
+    (long_ended times before moment (omega (arith, ended)))
+    (not_begun times (suc (suc before)) moment (omega (arith, early)))
+
+-- the whole list, by which neighbour is live
+pub with_before : (times : EpochTimes) (moment : ℕ) → InRange times → 0 < current times moment
+    → moment < current times moment * times.epoch + times.grace → current times moment ∷ (current times moment - 1) ∷ [] ≡ live_epochs times moment
+with_before times moment range positive short =
+    let middle : ℕ = current times moment in
+    rw (before_live times middle moment range (in_current times moment range) positive short)
+
+pub with_after : (times : EpochTimes) (moment : ℕ) → InRange times
+    → ((0 < current times moment) × (moment < current times moment * times.epoch + times.grace) → ⊥)
+    → current times moment * times.epoch + times.epoch ≤ moment + times.grace → current times moment ∷ (current times moment + 1) ∷ [] ≡ live_epochs times moment
+with_after times moment range late soon =
+    let middle : ℕ = current times moment in
+    rw (after_live times middle moment range (in_current times moment range) late soon)
+
+pub alone : (times : EpochTimes) (moment : ℕ) → InRange times
+    → ((0 < current times moment) × (moment < current times moment * times.epoch + times.grace) → ⊥)
+    → moment + times.grace < current times moment * times.epoch + times.epoch → current times moment ∷ [] ≡ live_epochs times moment
+alone times moment range late early =
+    let middle : ℕ = current times moment in
+    rw (alone_live times middle moment range (in_current times moment range) late early)

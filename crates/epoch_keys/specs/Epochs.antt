@@ -1,5 +1,5 @@
 -- Epochs of time and which of them are live at a moment. Moments and lengths are in milliseconds.
-use Rattle.std.specs.Prelude.{ℕ, ◌+◌, ◌-◌, ◌*◌, ◌/◌, ◌^◌, ◌≤◌, ◌==◌, ◌&&◌, nat_le, nat_lt, not, Bool, List, [], ◌∷◌, filter}
+use Rattle.std.specs.Prelude.{ℕ, zero, suc, ◌+◌, ◌-◌, ◌*◌, ◌/◌, ◌^◌, ◌≤◌, ◌&&◌, nat_le, nat_lt, Bool, List, [], ◌∷◌, filter}
 
 -- the length of an epoch, and the grace for which it is live before it begins and after it ends
 pub record EpochTimes : Type 0 where
@@ -20,11 +20,15 @@ is_live times epoch moment = nat_le (epoch * times.epoch) (moment + times.grace)
 abbrev pub current : EpochTimes → ℕ → ℕ
 current times moment = moment / times.epoch
 
+-- the epoch before an epoch, where there is one, and the epoch after it
+abbrev pub neighbours : ℕ → List ℕ
+neighbours zero = 1 ∷ []
+neighbours (suc before) = before ∷ suc (suc before) ∷ []
+
 -- the live epochs, the current one first: beside it only one of its neighbours can be live
 abbrev pub live_epochs : EpochTimes → ℕ → List ℕ
-live_epochs times moment = current times moment ∷
-    filter (λ epoch. is_live times epoch moment && not (epoch == current times moment)) ((current times moment - 1) ∷ (current times moment + 1) ∷ [])
+live_epochs times moment = current times moment ∷ filter (λ epoch. is_live times epoch moment) (neighbours (current times moment))
 
--- the least epoch that is live
+-- the least epoch that is live; within the first grace that is epoch 0, since the difference is 0 there
 abbrev pub least_live : EpochTimes → ℕ → ℕ
 least_live times moment = (moment - times.grace) / times.epoch

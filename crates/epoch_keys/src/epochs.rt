@@ -7,6 +7,7 @@ ghost use Rattle.epoch_keys.specs.Epochs as epochs;
 use crate::times::{Live, Times};
 
 /// The epochs that are live at a moment below 2^60, the current one first.
+#[tactic(auto, using(crate::proofs::LiveEpochs::live_exactly, crate::proofs::LiveEpochs::with_before, crate::proofs::LiveEpochs::with_after, crate::proofs::LiveEpochs::alone))]
 pub fn live(moment: u64, times: &Times) -> Live
     requires { moment < 2 ^ 60 }
     ensures first { result.first ≡ current times.now moment }

@@ -62,19 +62,6 @@ fn epochs_live_round_their_ends(rt: HostRuntime) -> Result<(), Fail> {
     Ok(())
 }
 
-const DIGITS: &[u8; 16] = b"0123456789abcdef";
-
-// The bytes are those of the hexadecimal digits.
-fn expect_hex(rt: &impl Abort, alloc: Global, bytes: &[u8], want: &str) -> Result<(), Fail> {
-    let mut text = String::new(alloc);
-    for byte in bytes {
-        text.push(char::from(DIGITS[usize::from(*byte / 16)]))?;
-        text.push(char::from(DIGITS[usize::from(*byte % 16)]))?;
-    }
-    assert_eq!(rt; text.as_str(), want);
-    Ok(())
-}
-
 // Every pair of the laboratory suite has two equal keys. The values are another program's.
 #[test]
 fn pairs_of_the_laboratory_suite(rt: HostRuntime) -> Result<(), Fail> {
@@ -103,8 +90,8 @@ fn pairs_of_the_laboratory_suite(rt: HostRuntime) -> Result<(), Fail> {
     ] {
         let key = epoch_pair::<LabSuite>(alloc, &[byte; 32], epoch)?;
         assert_eq!(rt; key.epoch, epoch);
-        expect_hex(&rt, alloc, key.pk.as_slice(), want)?;
-        expect_hex(&rt, alloc, key.sk.as_slice(), want)?;
+        assert_eq!(rt; hex::encode(alloc, key.pk.as_slice())?.as_str(), want);
+        assert_eq!(rt; hex::encode(alloc, key.sk.as_slice())?.as_str(), want);
     }
     Ok(())
 }
@@ -144,12 +131,11 @@ fn a_ring_at_moments_out_of_order(rt: HostRuntime) -> Result<(), Fail> {
         expect_keys(&rt, alloc, &mut ring, moment, (first, other))?;
     }
     let keys = ring.keys_at(alloc, 9_500)?;
-    expect_hex(
-        &rt,
-        alloc,
-        keys.first.sk.as_slice(),
-        "6a1e8d0d2b1c4eaf1fa3d7faa7425238ed9d06514bbfe5883e3c407f3464bbf4",
-    )
+    assert_eq!(rt;
+        hex::encode(alloc, keys.first.sk.as_slice())?.as_str(),
+        "6a1e8d0d2b1c4eaf1fa3d7faa7425238ed9d06514bbfe5883e3c407f3464bbf4"
+    );
+    Ok(())
 }
 
 // A mechanism in which words make a pair just where the first is even. Its keys have no bytes.
@@ -243,6 +229,12 @@ impl Suite for EvenSuite {
 #[test]
 fn the_first_epoch_without_a_pair(rt: HostRuntime) -> Result<(), Fail> {
     let alloc = rt.alloc();
+    for (epoch, is_paired) in [(7, false), (8, true), (9, true), (10, false)] {
+        match epoch_pair::<EvenSuite>(alloc, &[0; 32], epoch) {
+            Ok(key) => assert!(rt; is_paired && key.epoch == epoch),
+            Err(fault) => assert!(rt; !is_paired && fault == KeyFault::NoKey { epoch }),
+        }
+    }
     let mut ring = KeyRing::<EvenSuite>::new(&[0; 32], Times::new(1000, 100)?);
     for (moment, want) in [
         (8_500u32, None),

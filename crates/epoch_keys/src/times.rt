@@ -2,16 +2,8 @@
 ghost use Rattle.std.specs.Prelude.{◌≡◌, ℕ, ◌/◌, ◌^◌, ◌<◌, ◌≤◌, ◌↔◌, IsOk, IfOk, IsErrOf};
 ghost use Rattle.epoch_keys.specs.Epochs.{EpochTimes, InRange};
 
+use crate::TimesFault;
 use std::marker::Model;
-
-/// Why there are no epochs of these lengths.
-#[derive(Clone, Copy, Debug, PartialEq, Eq)]
-pub enum TimesFault {
-    /// The length of an epoch isn't 4 to 2^40 milliseconds.
-    Epoch,
-    /// The grace is longer than a quarter of an epoch.
-    Grace,
-}
 
 /// The length of an epoch and the grace round it, in milliseconds.
 #[derive(Clone, Copy)]
@@ -35,7 +27,7 @@ impl Times {
     /// `Grace` exactly where the grace is above a quarter of it.
     pub fn new(epoch: u64, grace: u64) -> Result<Times, TimesFault>
         ensures ok { IsOk result ↔ InRange (record { epoch = epoch; grace = grace }) }
-        ensures epoch { IsErrOf result TimesFault.Epoch ↔ ((4 ≤ epoch) × (epoch ≤ 2 ^ 40) → ⊥) }
+        ensures epoch { IsErrOf result TimesFault.Epoch ↔ ¬ ((4 ≤ epoch) × (epoch ≤ 2 ^ 40)) }
         ensures grace { IsErrOf result TimesFault.Grace ↔ ((4 ≤ epoch) × (epoch ≤ 2 ^ 40) × (epoch / 4 < grace)) }
         ensures lengths { IfOk result (λ times. times ≡ record { epoch = epoch; grace = grace }) }
     {

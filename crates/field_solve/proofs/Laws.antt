@@ -10,6 +10,7 @@ use Rattle.std.proofs.lemmas.List.{get_or_past, ext_get_or}
 use Rattle.ntru_ring.specs.Centring.{IsCongruent, IsWithin, centred}
 use Rattle.ntru_ring.specs.Polynomials.{IsPolynomial, coefficient, one_polynomial, zero_polynomial}
 use Rattle.ntru_ring.specs.Product.{product, ring_coefficient, convolution, folded}
+use Rattle.ntru_ring.proofs.Ring.{coefficient_at, length-coefficients}
 use Rattle.field_solve.specs.Answers.{IsDivisor, IsInverse}
 use Rattle.field_solve.specs.Moduli.{prime_of}
 use Rattle.field_solve.specs.declared.fields.Modulus.{Modulus}
@@ -18,7 +19,7 @@ use Rattle.field_solve.proofs.Congruences.{congruent_chained, congruent_same, co
 use Rattle.field_solve.proofs.Integers.{mul-add_right, mul_assoc}
 use Rattle.field_solve.proofs.Linear.{IsSum, coefficient_of, sum_below-linear, folded-linear}
 use Rattle.field_solve.proofs.Shifts.{IsShort, cut-below, cut-above, in_ring, in_ring-turned}
-use Rattle.field_solve.proofs.Products.{coefficients-at, length-coefficients, one_polynomial-first, one_polynomial-rest, one_polynomial-whole, zero_polynomial-at, zero_polynomial-whole}
+use Rattle.field_solve.proofs.Products.{one_polynomial-first, one_polynomial-rest, one_polynomial-whole, zero_polynomial-at, zero_polynomial-whole}
 use Rattle.field_solve.proofs.Units.{sum_below-one, sum_below-zeros}
 
 -- ---- the centred residue
@@ -127,7 +128,7 @@ unfolding product ring_coefficient coefficient_of
 product-congruent m a b place some = elim (cases_lt place 761) [
   | inl below ↦
       let h = centred-congruent m (ring_coefficient a b place) some in
-      (h.0, coefficients-at 761 (λ k. centred m (ring_coefficient a b k)) place below ∙ h.1 ∙ ap (λ z. z +ℤ h.0 *ℤ pos m) (sym (cut-below 761 (coefficient_of (coefficient a) (coefficient b)) place below)))
+      (h.0, coefficient_at 761 (λ k. centred m (ring_coefficient a b k)) place below ∙ h.1 ∙ ap (λ z. z +ℤ h.0 *ℤ pos m) (sym (cut-below 761 (coefficient_of (coefficient a) (coefficient b)) place below)))
   | inr above ↦
       let past : length (product m a b) ≤ place = omega (arith, length-coefficients 761 (λ k. centred m (ring_coefficient a b k))) in
       congruent_same m (coefficient (product m a b) place) (in_ring (coefficient a) (coefficient b) place)

@@ -6,10 +6,10 @@ use Rattle.std.proofs.Math.Nat.{add-mul-mod_self_right, mod-eq_of_lt}
 use Rattle.std.proofs.lemmas.Bool.{cases_lt}
 use Rattle.std.proofs.lemmas.Int.{ints, int_rem_euclid_is}
 use Rattle.std.proofs.lemmas.List.{get_or-replicate, get_or_past, length-replicate, ext_get_or}
-use Rattle.std.proofs.lemmas.List.FromFn.{get_or-map-range_with_len, length-map-range_with_len}
 use Rattle.ntru_ring.specs.Centring.{IsCongruent, centred}
 use Rattle.ntru_ring.specs.Polynomials.{IsPolynomial, coefficient, coefficients, one_polynomial, zero_polynomial}
 use Rattle.ntru_ring.specs.Product.{product, ring_coefficient}
+use Rattle.ntru_ring.proofs.Ring.{coefficient_at, length-coefficients}
 use Rattle.field_solve.specs.Answers.{IsDivisor}
 use Rattle.field_solve.specs.Elimination.{Divides, Inverts, times}
 use Rattle.field_solve.proofs.Congruences.{congruent_chained, congruent_same, congruent_turned}
@@ -42,19 +42,11 @@ zero_or_one m big h = by h.0 h.1
     by (pos q) e = omega (arith, ints, e)
     by (negsuc q) e = let one : suc q * m ≡ 1 = omega (arith, ints, e) in omega arith
 
-pub length-coefficients : (n : ℕ) (at : ℕ → ℤ) → length (coefficients n at) ≡ n
-unfolding coefficients
-length-coefficients n at = length-map-range_with_len at 0 n
-
-pub coefficients-at : (n : ℕ) (at : ℕ → ℤ) (place : ℕ) → place < n → coefficient (coefficients n at) place ≡ at place
-unfolding coefficients
-coefficients-at n at place within = get_or-map-range_with_len at 0 n place place (pos 0) within (omega arith)
-
 -- a list of coefficients is the one whose coefficients it has
 same_polynomial : (n : ℕ) (at : ℕ → ℤ) (polynomial : List ℤ) → length polynomial ≡ n → ((place : ℕ) → place < n → at place ≡ coefficient polynomial place) → coefficients n at ≡ polynomial
 same_polynomial n at polynomial whole h =
     ext_get_or (pos 0) (coefficients n at) polynomial (length-coefficients n at ∙ sym whole)
-    (λ place within. let below : place < n = subst (λ (m : ℕ). place < m) (length-coefficients n at) within in coefficients-at n at place below ∙ h place below)
+    (λ place within. let below : place < n = subst (λ (m : ℕ). place < m) (length-coefficients n at) within in coefficient_at n at place below ∙ h place below)
 
 pub one_polynomial-whole : length one_polynomial ≡ 761
 unfolding one_polynomial

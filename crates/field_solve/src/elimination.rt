@@ -2,10 +2,9 @@
 // the rows before it. A row that vanishes shows a divisor of zero. Otherwise each row takes a column as its pivot,
 // and once every column is one, the polynomial -1 reduced by all rows vanishes: its combination is the inverse. That
 // the product is 1, or 0, is proved of what the elimination finds, so it isn't multiplied out when the program runs.
-// An inversion takes 0.15 seconds.
-ghost use Rattle.std.specs.Prelude.{◌≡◌, ℕ, ◌+◌, ◌/◌, ◌<◌, ◌≤◌, ℤ, List, length, slice_index, IfOk, IfNone, IfSome};
+ghost use Rattle.std.specs.Prelude.{◌≡◌, ℕ, ◌+◌, ◌/◌, ◌<◌, ◌≤◌, ℤ, length, slice_index, IfOk, IfNone, IfSome};
 ghost use Rattle.ntru_ring.specs.Polynomials.{IsPolynomial};
-ghost use Rattle.field_solve.specs.Answers.{IfDivisor, IfInverse, IsDivisor, IsInverse};
+ghost use Rattle.field_solve.specs.Answers.{HasNoDivisor, HasNoInverse, IfDivisor, IfInverse, IsDivisor, IsInverse, IsOnlyInverse};
 ghost use Rattle.field_solve.specs.Elimination.{AreCombined, AreRows, Divides, Inverts, IsPivot, Progress};
 ghost use Rattle.field_solve.specs.Moduli.{AreInverses, prime_of};
 
@@ -41,8 +40,10 @@ fn add_row(
     requires polynomial { IsPolynomial (prime / 2) poly.now }
     requires progress { Progress prime poly.now columns.old.items rows.old.items }
     requires unfinished { length rows.old.items < 761 }
-    ensures progress { IfOk result (λ found. IfNone found (Progress prime poly.now columns.new.items rows.new.items)) }
-    ensures one_more { IfOk result (λ found. IfNone found (length rows.new.items ≡ length rows.old.items + 1)) }
+    ensures progress { IfOk result
+        (λ found. IfNone found (Progress prime poly.now columns.new.items rows.new.items)) }
+    ensures one_more { IfOk result
+        (λ found. IfNone found (length rows.new.items ≡ length rows.old.items + 1)) }
     ensures divisor { IfOk result (λ found. IfSome found (λ v. Divides prime poly.now v.items)) }
     ensures short { IfOk result (λ found. IfSome found (λ v. length v.items ≤ 761)) }
 {
@@ -86,7 +87,8 @@ fn inverse_by(alloc: Global, prime: u32, rows: &[Row]) -> Result<Vec<u64>, Memor
     requires all { length rows.now ≡ 761 }
     requires pivots { (column : ℕ) → column < 761 → IsPivot rows.now column }
     ensures short { IfOk result (λ u. length u.items ≡ 761) }
-    ensures inverse { IfOk result (λ u. (poly : ℕ → ℤ) → AreCombined prime poly rows.now → Inverts prime poly u.items) }
+    ensures inverse { IfOk result
+        (λ u. (poly : ℕ → ℤ) → AreCombined prime poly rows.now → Inverts prime poly u.items) }
 {
     let entries = minus_one(alloc, prime)?;
     let combination = zeros(alloc, 761)?;
@@ -107,7 +109,8 @@ fn inverse_by(alloc: Global, prime: u32, rows: &[Row]) -> Result<Vec<u64>, Memor
 // The columns of a row.
 fn all_columns(alloc: Global) -> Result<Vec<usize>, Memory>
     ensures whole { IfOk result (λ columns. length columns.items ≡ 761) }
-    ensures each { IfOk result (λ columns. (column : ℕ) → column < 761 → slice_index columns.items column ≡ column) }
+    ensures each { IfOk result
+        (λ columns. (column : ℕ) → column < 761 → slice_index columns.items column ≡ column) }
 {
     let mut columns = Vec::new(alloc);
     for column in 0..761 {
@@ -122,12 +125,17 @@ fn all_columns(alloc: Global) -> Result<Vec<usize>, Memory>
 pub fn invert(alloc: Global, modulus: Modulus, poly: &[i16]) -> Result<Solved, Memory>
     requires { IsPolynomial (prime_of modulus / 2) poly.now }
 
-    ensures inverse { IfOk result (λ solved. IfInverse solved (IsInverse (prime_of modulus) poly.now)) }
-    ensures only_inverse { IfOk result (λ solved. IfInverse solved (λ u. (w : List ℤ) → IsInverse (prime_of modulus) poly.now w → w ≡ u)) }
-    ensures no_divisor { IfOk result (λ solved. IfInverse solved (λ u. (w : List ℤ) → IsDivisor (prime_of modulus) poly.now w → ⊥)) }
+    ensures inverse { IfOk result
+        (λ solved. IfInverse solved (IsInverse (prime_of modulus) poly.now)) }
+    ensures only_inverse { IfOk result
+        (λ solved. IfInverse solved (IsOnlyInverse (prime_of modulus) poly.now)) }
+    ensures no_divisor { IfOk result
+        (λ solved. IfInverse solved (λ _. HasNoDivisor (prime_of modulus) poly.now)) }
 
-    ensures divisor { IfOk result (λ solved. IfDivisor solved (IsDivisor (prime_of modulus) poly.now)) }
-    ensures no_inverse { IfOk result (λ solved. IfDivisor solved (λ v. (w : List ℤ) → IsInverse (prime_of modulus) poly.now w → ⊥)) }
+    ensures divisor { IfOk result
+        (λ solved. IfDivisor solved (IsDivisor (prime_of modulus) poly.now)) }
+    ensures no_inverse { IfOk result
+        (λ solved. IfDivisor solved (λ _. HasNoInverse (prime_of modulus) poly.now)) }
 {
     let prime = prime_of(modulus);
     let inverses = inverses(alloc, modulus)?;

@@ -91,7 +91,8 @@ pub(crate) fn polynomial(alloc: Global, prime: u32, numbers: &[u64]) -> Result<V
     requires small { prime ≤ 4591 }
     requires odd { prime % 2 ≡ 1 }
     ensures whole { IfOk result (λ p. IsPolynomial (prime / 2) p.items) }
-    ensures congruent { IfOk result (λ p. (place : ℕ) → place < 761 → IsCongruent prime (coefficient p.items place) (pos (slice_index numbers.now place))) }
+    ensures congruent { IfOk result (λ p. (place : ℕ) → place < 761
+        → IsCongruent prime (coefficient p.items place) (pos (slice_index numbers.now place))) }
 {
     let mut coefficients = Vec::new(alloc);
     for place in 0..761 {

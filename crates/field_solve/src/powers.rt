@@ -30,7 +30,8 @@ pub(crate) fn minus_one(alloc: Global, prime: u32) -> Result<Vec<u64>, Memory>
     requires positive { 0 < prime }
     ensures whole { IfOk result (λ entries. length entries.items ≡ 761) }
     ensures room { IfOk result (λ entries. AllBelow (2 ^ 25) entries.items) }
-    ensures combined { IfOk result (λ entries. (poly : ℕ → ℤ) → Combines prime poly minus_one (replicate 761 0) entries.items) }
+    ensures combined { IfOk result (λ entries. (poly : ℕ → ℤ)
+        → Combines prime poly minus_one (replicate 761 0) entries.items) }
 {
     let mut entries = zeros(alloc, 761)?;
     entries[0] = u64::from(prime) - 1;
@@ -63,7 +64,8 @@ fn product_at(prime: u32, poly: &[i16], power: usize, place: usize) -> u64
     requires polynomial { IsPolynomial (prime / 2) poly.now }
     requires within { place < 761 }
     ensures below { result < 2 ^ 25 }
-    ensures congruent { IsCongruent prime (pos result) (times (coefficient poly.now) (replicate power 0 ++ 1 ∷ []) place) }
+    ensures congruent { IsCongruent prime (pos result)
+        (times (coefficient poly.now) (replicate power 0 ++ 1 ∷ []) place) }
 {
     let plain = raised_at(prime, poly, power, place) + raised_at(prime, poly, power, 761 + place);
     if place == 0 {
@@ -85,7 +87,8 @@ pub(crate) fn product(
     requires polynomial { IsPolynomial (prime / 2) poly.now }
     ensures whole { IfOk result (λ entries. length entries.items ≡ 761) }
     ensures room { IfOk result (λ entries. AllBelow (2 ^ 25) entries.items) }
-    ensures combined { IfOk result (λ entries. Combines prime (coefficient poly.now) nothing (replicate power 0 ++ 1 ∷ []) entries.items) }
+    ensures combined { IfOk result (λ entries.
+        Combines prime (coefficient poly.now) nothing (replicate power 0 ++ 1 ∷ []) entries.items) }
 {
     let mut entries = Vec::new(alloc);
     for place in 0..761 {

@@ -1,6 +1,6 @@
 // Rows of numbers modulo a prime, and the steps of the elimination on them. A row under work is a list of sums
-// that grow by less than 2^25 in each step, so that remainders are taken at its end alone. Nearly all of the time of
-// an inversion goes into `add_multiple`; lanes will make it faster under the same contract.
+// that grow by less than 2^25 in each step, so that remainders are taken at its end alone. Nearly all of the work of
+// an inversion is in `add_multiple`.
 ghost use Rattle.std.specs.Prelude.{◌≡◌, ◌≢◌, ℕ, ◌+◌, ◌*◌, ◌%◌, ◌^◌, ◌<◌, ◌≤◌, ℤ, length, slice_index, IfOk, MatchOption};
 ghost use Rattle.field_solve.specs.Moduli.{AreInverses};
 ghost use Rattle.field_solve.specs.Elimination.{AllBelow, AreCleared, AreCombined, AreRows, Combines, IsRow, nothing};
@@ -22,7 +22,8 @@ pub(crate) fn add_multiple(sums: &mut [u64], factor: u32, list: &[u32])
     requires room { AllBelow (2 ^ 63) sums.old }
     requires small { AllBelow 4591 list.now }
     requires small_factor { factor < 4591 }
-    ensures { (place : ℕ) → slice_index sums.new place ≡ slice_index sums.old place + factor * slice_index list.now place }
+    ensures { (place : ℕ)
+        → slice_index sums.new place ≡ slice_index sums.old place + factor * slice_index list.now place }
 {
     for i in 0..list.len() {
         sums[i] += u64::from(factor) * u64::from(list[i]);
@@ -39,10 +40,13 @@ pub(crate) fn clear(prime: u32, row: &Row, sums: &mut [u64], combination: &mut [
     requires room { AllBelow (2 ^ 63) sums.old }
     requires room_combination { AllBelow (2 ^ 63) combination.old }
     ensures cleared { slice_index sums.new row.now.pivot % prime ≡ 0 }
-    ensures kept { (place : ℕ) → slice_index row.now.entries.items place ≡ 0 → slice_index sums.new place ≡ slice_index sums.old place }
-    ensures behind { (place : ℕ) → length row.now.combination.items ≤ place → slice_index combination.new place ≡ slice_index combination.old place }
+    ensures kept { (place : ℕ) → slice_index row.now.entries.items place ≡ 0
+        → slice_index sums.new place ≡ slice_index sums.old place }
+    ensures behind { (place : ℕ) → length row.now.combination.items ≤ place
+        → slice_index combination.new place ≡ slice_index combination.old place }
     ensures room { (bound : ℕ) → AllBelow bound sums.old → AllBelow (bound + 2 ^ 25) sums.new }
-    ensures room_combination { (bound : ℕ) → AllBelow bound combination.old → AllBelow (bound + 2 ^ 25) combination.new }
+    ensures room_combination { (bound : ℕ) → AllBelow bound combination.old
+        → AllBelow (bound + 2 ^ 25) combination.new }
     ensures combined { (poly start : ℕ → ℤ)
         → Combines prime poly nothing row.now.combination.items row.now.entries.items
         → Combines prime poly start combination.old sums.old
@@ -65,7 +69,8 @@ pub(crate) fn reduce(prime: u32, rows: &[Row], sums: &mut [u64], combination: &m
     requires room { AllBelow (2 ^ 25) sums.old }
     requires room_combination { AllBelow (2 ^ 25) combination.old }
     ensures cleared { AreCleared prime (length rows.now) rows.now sums.new }
-    ensures behind { (place : ℕ) → length rows.now ≤ place → slice_index combination.new place ≡ slice_index combination.old place }
+    ensures behind { (place : ℕ) → length rows.now ≤ place
+        → slice_index combination.new place ≡ slice_index combination.old place }
     ensures combined { (poly start : ℕ → ℤ)
         → AreCombined prime poly rows.now
         → Combines prime poly start combination.old sums.old
@@ -96,7 +101,8 @@ pub(crate) fn reduced(prime: u32, rows: &[Row], sums: Sums) -> Sums
     ensures whole { length result.entries.items ≡ 761 }
     ensures same_length { length result.combination.items ≡ length sums.combination.items }
     ensures cleared { AreCleared prime (length rows.now) rows.now result.entries.items }
-    ensures behind { (place : ℕ) → length rows.now ≤ place → slice_index result.combination.items place ≡ slice_index sums.combination.items place }
+    ensures behind { (place : ℕ) → length rows.now ≤ place
+        → slice_index result.combination.items place ≡ slice_index sums.combination.items place }
     ensures combined { (poly start : ℕ → ℤ)
         → AreCombined prime poly rows.now
         → Combines prime poly start sums.combination.items sums.entries.items
@@ -119,8 +125,10 @@ pub(crate) fn first_nonzero(prime: u32, columns: &[usize], sums: &[u64]) -> Opti
     requires whole { length sums.now ≡ 761 }
     requires within { AllBelow 761 columns.now }
     ensures { MatchOption result
-        ((place : ℕ) → place < length columns.now → slice_index sums.now (slice_index columns.now place) % prime ≡ 0)
-        (λ found. (found < length columns.now) × (slice_index sums.now (slice_index columns.now found) % prime ≢ 0)) }
+        ((place : ℕ) → place < length columns.now
+        → slice_index sums.now (slice_index columns.now place) % prime ≡ 0)
+        (λ found. (found < length columns.now)
+        × (slice_index sums.now (slice_index columns.now found) % prime ≢ 0)) }
 {
     for i in 0..columns.len() {
         if sums[columns[i]] % u64::from(prime) != 0 {
@@ -141,7 +149,8 @@ pub(crate) fn scaled(
     requires small { prime ≤ 4591 }
     requires small_factor { factor < prime }
     ensures whole { IfOk result (λ numbers. length numbers.items ≡ length sums.now) }
-    ensures values { IfOk result (λ numbers. (place : ℕ) → slice_index numbers.items place ≡ factor * (slice_index sums.now place % prime) % prime) }
+    ensures values { IfOk result (λ numbers. (place : ℕ)
+        → slice_index numbers.items place ≡ factor * (slice_index sums.now place % prime) % prime) }
 {
     let mut numbers = Vec::new(alloc);
     for sum in sums {
@@ -167,8 +176,10 @@ pub(crate) fn normalised(
     requires within { pivot < 761 }
     requires nonzero { slice_index sums.now pivot % prime ≢ 0 }
     ensures pivot { IfOk result (λ row. row.pivot ≡ pivot) }
-    ensures form { IfOk result (λ row. (place : ℕ) → length combination.now ≤ place + 1 → IsRow place row) }
-    ensures zero { IfOk result (λ row. (column : ℕ) → slice_index sums.now column % prime ≡ 0 → slice_index row.entries.items column ≡ 0) }
+    ensures form { IfOk result
+        (λ row. (place : ℕ) → length combination.now ≤ place + 1 → IsRow place row) }
+    ensures zero { IfOk result (λ row. (column : ℕ) → slice_index sums.now column % prime ≡ 0
+        → slice_index row.entries.items column ≡ 0) }
     ensures combined { IfOk result (λ row. (poly : ℕ → ℤ)
         → Combines prime poly nothing combination.now sums.now
         → Combines prime poly nothing row.combination.items row.entries.items) }

@@ -3,8 +3,9 @@ use Rattle.std.proofs.Common.{◌≡◌, inl, inr, ℕ, suc, ◌+◌, ◌-◌, �
 use Rattle.std.proofs.lemmas.List.{append-nil, append_assoc, take-take, take_at, take_all, drop_at, drop_more, get_or-take, get_or-drop, get_or_at, length-take-le, drop-replicate}
 use Rattle.std.proofs.lemmas.Bool.{cases_lt, cases_eq}
 use Rattle.replay_disk.specs.Disk.{with_bytes}
-use Rattle.gate_log.specs.Log.{SameOutside, IsOldOrWith, IsOldOrNone}
-use Rattle.gate_log.specs.Records.{records, end_place, IsClosed}
+use Rattle.gate_log.specs.Log.{IsOldOrWith, IsOldOrNone}
+use Rattle.gate_log.specs.Scanning.{SameOutside}
+use Rattle.gate_log.specs.Records.{records, end_place, with_records, IsClosed}
 use Rattle.gate_log.proofs.Scanning.{records-open, records-shut, records-few, front_keeps, end_within, tail_nothing, gate_cases}
 
 take_written : (place : ℕ) (bytes old : List ℕ) → place ≤ length old → take place (with_bytes place bytes old) ≡ take place old
@@ -77,7 +78,7 @@ module _ (size : ℕ) (old bytes : List ℕ) (count : length bytes ≡ size) (cl
       ap (λ (xs : List ℕ). records size xs) (joined place image (take place old) (gate ∷ behind) front rest) ∙ front_keeps size old (gate ∷ behind) (omega arith)
 
   -- the gate byte torn or not: the record is there whole, or not at all
-  pub gate_image : (image : List ℕ) → SameOutside place 1 staged image → IsOldOrWith (records size old) bytes (records size image)
+  pub gate_image : (image : List ℕ) → SameOutside place 1 staged image → IsOldOrWith (records size old) (bytes ∷ []) (records size image)
   gate_image image same =
       let there : place < length image = omega (arith, staged_long, same.no_shorter) in
       let gate = get_or image place 0 in
@@ -96,6 +97,14 @@ module _ (size : ℕ) (old bytes : List ℕ) (count : length bytes ≡ size) (cl
 
   written_rest : drop place written ≡ 1 ∷ behind
   written_rest = drop_written place (1 ∷ []) staged (omega (arith, staged_long)) ∙ ap (λ (xs : List ℕ). 1 ∷ xs) staged_behind
+
+  -- both writes together: an open gate, the record and a closed gate
+  pub written_is : written ≡ with_records size (bytes ∷ []) old
+  written_is =
+      let from : place + 1 + length framed ≡ place + length (1 ∷ framed) = omega arith in
+      joined place written (take place old) (1 ∷ behind) written_front written_rest
+      ∙ ap (λ (n : ℕ). take place old ++ ((1 ∷ framed) ++ drop n old)) from
+      ∙ sym (append_assoc (take place old) (1 ∷ framed) (drop (place + length (1 ∷ framed)) old))
 
   pub records-written : records size written ≡ records size old ++ bytes ∷ []
   records-written = records_at written 1 written_front written_rest ∙ ap (λ (rs : List (List ℕ)). records size old ++ rs) (opened 1 refl)

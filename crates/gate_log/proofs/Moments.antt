@@ -1,11 +1,13 @@
 -- What a log's steps leave at every moment, from what their writes leave outside a range.
-use Rattle.std.proofs.Common.{◌≡◌, inl, ℕ, ◌+◌, ◌<◌, ◌≤◌, List, [], ◌∷◌, ◌++◌, length, refl, sym, ◌∙◌, ap, subst, arith}
-use Rattle.replay_disk.specs.Disk.{Areas, RackState, area_at, contents_of, settled, with_bytes, ContentsAreImages, ChangesOnly, IsSynced}
-use Rattle.replay_disk.specs.Laws.{weaker, chained, started, goes_on}
+use Rattle.std.proofs.Common.{◌≡◌, inl, ℕ, ◌+◌, ◌<◌, ◌≤◌, max, List, [], ◌∷◌, ◌++◌, length, refl, sym, ◌∙◌, ap, subst, arith, length-append, length-drop}
+use Rattle.replay_disk.specs.Disk.{Area, Areas, RackState, IsImage, IsSynced, IsAtRest, ReadsAnImage, ChangesOnly, ContentsAreImages, OnlyRead, area_at, contents_of, settled, with_bytes}
 use Rattle.replay_disk.specs.Moments.{AtEachMoment, PassesOne}
-use Rattle.gate_log.specs.Log.{EachImage, OthersStay, SameOutside, IsOldOrWith, IsOldOrNone, AreOfAnImage}
-use Rattle.gate_log.specs.Records.{records, end_place, IsClosed}
-use Rattle.gate_log.proofs.Appending.{behind_keeps, gate_image, records-written, closed-written, staged_long, end_keeps, shut_same, closed-shut, reset_image, closed-reset}
+use Rattle.replay_disk.proofs.Images.{length-with_bytes}
+use Rattle.replay_disk.proofs.Laws.{weaker, chained, started, goes_on, same_moment, rests_settled, rests_same}
+use Rattle.gate_log.specs.Log.{EachImage, OthersStay, IsAppendOf, IsClosingOf, IsResetOf, IsOpeningOf}
+use Rattle.gate_log.specs.Records.{records, end_place, with_records, IsClosed}
+use Rattle.gate_log.specs.Scanning.{SameOutside}
+use Rattle.gate_log.proofs.Appending.{behind_keeps, gate_image, written_is, staged_long, end_keeps, reset_image}
 use Rattle.gate_log.proofs.Outside.{each_then, each_at_rest, others_same}
 
 -- each image has P at every moment, and so Q
@@ -21,12 +23,24 @@ each_after area P Q first mid last more so_far then =
     chained (EachImage area Q first.areas) first mid last so_far
     (weaker (EachImage area P mid.areas) (EachImage area Q first.areas) mid last (λ now each. each_then area P Q first.areas mid.areas now stay more each) then)
 
+-- over an area at rest, before the first call
+pub each_started : (area : ℕ) (P : List ℕ → Type 0) (first : RackState) → IsAtRest first.areas area → P (contents_of area first) → AtEachMoment (EachImage area P first.areas) first first
+each_started area P first rest here = started (EachImage area P first.areas) first (each_at_rest area P first.areas first.areas rest here (others_same area first.areas))
+
 -- the contents of an area that is at rest with these bytes
 pub contents_at_rest : (area : ℕ) (state : RackState) (bytes : List ℕ) → area_at area state.areas ≡ settled bytes → contents_of area state ≡ bytes
 contents_at_rest area state bytes rest = ap (λ a. a.contents) rest
 
-pub at_rest : (area : ℕ) (state : RackState) (bytes : List ℕ) → area_at area state.areas ≡ settled bytes → area_at area state.areas ≡ settled (contents_of area state)
-at_rest area state bytes rest = rest ∙ ap settled (sym (contents_at_rest area state bytes rest))
+-- how long an image is that has the same bytes outside a range
+outside_long : (place size : ℕ) (old image : List ℕ) → SameOutside place size old image → length image ≤ max (length old) (place + size)
+outside_long place size old image same = let rest = ap length same.after in omega (arith, length-drop (place + size) image, length-drop (place + size) old)
+
+-- the contents themselves
+pub append_itself : (size : ℕ) (new : List (List ℕ)) (bytes : List ℕ) → IsAppendOf size new bytes bytes
+append_itself size new bytes = record { reads = inl refl; no_shorter = omega arith; no_longer = omega arith }
+
+pub closing_itself : (size : ℕ) (bytes : List ℕ) → IsClosingOf size bytes bytes
+closing_itself size bytes = record { reads = refl; no_shorter = omega arith; no_longer = omega arith }
 
 -- Appending: `first` before, `mid` after the record and the closed gate, `last` after the gate byte.
 module _ (area place : ℕ) (bytes framed : List ℕ) (first mid last : RackState) (is_framed : framed ≡ bytes ++ 0 ∷ [])
@@ -41,15 +55,22 @@ module _ (area place : ℕ) (bytes framed : List ℕ) (first mid last : RackStat
   staged = with_bytes (place + 1) framed old
 
   abbrev Kept : Areas → Type 0
-  Kept = EachImage area (λ image. IsOldOrWith (records size old) bytes (records size image)) first.areas
+  Kept = EachImage area (IsAppendOf size (bytes ∷ []) old) first.areas
 
-  behind : (image : List ℕ) → SameOutside (place + 1) (length framed) old image → IsOldOrWith (records size old) bytes (records size image)
+  frame_long : length framed ≡ size + 1
+  frame_long = ap length is_framed ∙ length-append bytes (0 ∷ [])
+
+  behind : (image : List ℕ) → SameOutside (place + 1) (length framed) old image → IsAppendOf size (bytes ∷ []) old image
   behind image same =
       let P : ℕ → List ℕ → Type 0 = λ p xs. SameOutside (p + 1) (length xs) old image in
-      inl (behind_keeps size old bytes refl closed image (subst (λ (p : ℕ). P p (bytes ++ 0 ∷ [])) is_place (subst (λ (xs : List ℕ). P place xs) is_framed same)))
+      record {
+        reads = inl (behind_keeps size old bytes refl closed image (subst (λ (p : ℕ). P p (bytes ++ 0 ∷ [])) is_place (subst (λ (xs : List ℕ). P place xs) is_framed same)));
+        no_shorter = same.no_shorter;
+        no_longer = omega (arith, outside_long (place + 1) (length framed) old image same, frame_long, is_place);
+      }
 
   pub append_first : AtEachMoment (EachImage area (SameOutside (place + 1) (length framed) old) first.areas) first mid → AtEachMoment Kept first mid
-  append_first moments = each_weaker area (SameOutside (place + 1) (length framed) old) (λ image. IsOldOrWith (records size old) bytes (records size image)) first.areas first mid behind moments
+  append_first moments = each_weaker area (SameOutside (place + 1) (length framed) old) (IsAppendOf size (bytes ∷ []) old) first.areas first mid behind moments
 
   module _ (rest : area_at area mid.areas ≡ settled staged) where
     is_staged : contents_of area mid ≡ with_bytes (end_place size old + 1) (bytes ++ 0 ∷ []) old
@@ -59,115 +80,109 @@ module _ (area place : ℕ) (bytes framed : List ℕ) (first mid last : RackStat
     pub append_place : place ≤ length (contents_of area mid)
     append_place = let long = staged_long size old bytes refl closed in omega (arith, is_place, ap length is_staged)
 
-    gate : (image : List ℕ) → SameOutside place 1 (contents_of area mid) image → IsOldOrWith (records size old) bytes (records size image)
+    stage_long : length (contents_of area mid) ≡ max (length old) (place + 1 + (size + 1))
+    stage_long =
+        let within : place + 1 ≤ length old = let there = closed.there in omega (arith, is_place) in
+        let long = length-with_bytes (place + 1) framed old within in
+        omega (arith, ap length (contents_at_rest area mid staged rest), frame_long)
+
+    gate : (image : List ℕ) → SameOutside place 1 (contents_of area mid) image → IsAppendOf size (bytes ∷ []) old image
     gate image same =
         let P : ℕ → List ℕ → Type 0 = λ p xs. SameOutside p 1 xs image in
-        gate_image size old bytes refl closed image
-        (subst (λ (p : ℕ). P p (with_bytes (end_place size old + 1) (bytes ++ 0 ∷ []) old)) is_place (subst (λ (xs : List ℕ). P place xs) is_staged same))
+        let long = outside_long place 1 (contents_of area mid) image same in
+        record {
+          reads = gate_image size old bytes refl closed image
+              (subst (λ (p : ℕ). P p (with_bytes (end_place size old + 1) (bytes ++ 0 ∷ []) old)) is_place (subst (λ (xs : List ℕ). P place xs) is_staged same));
+          no_shorter = let more = same.no_shorter in omega (arith, stage_long);
+          no_longer = omega (arith, stage_long, is_place);
+        }
 
     pub append_then : AtEachMoment Kept first mid → AtEachMoment (EachImage area (SameOutside place 1 (contents_of area mid)) mid.areas) mid last → AtEachMoment Kept first last
     append_then so_far then =
-        each_after area (SameOutside place 1 (contents_of area mid)) (λ image. IsOldOrWith (records size old) bytes (records size image)) first mid last gate so_far then
+        each_after area (SameOutside place 1 (contents_of area mid)) (IsAppendOf size (bytes ∷ []) old) first mid last gate so_far then
 
-    module _ (done : area_at area last.areas ≡ settled (with_bytes place (1 ∷ []) (contents_of area mid))) where
-      is_written : contents_of area last ≡ with_bytes (end_place size old) (1 ∷ []) (with_bytes (end_place size old + 1) (bytes ++ 0 ∷ []) old)
-      is_written =
-          contents_at_rest area last (with_bytes place (1 ∷ []) (contents_of area mid)) done
-          ∙ ap (λ (p : ℕ). with_bytes p (1 ∷ []) (contents_of area mid)) is_place ∙ ap (λ (xs : List ℕ). with_bytes (end_place size old) (1 ∷ []) xs) is_staged
+    pub append_done : area_at area last.areas ≡ settled (with_bytes place (1 ∷ []) (contents_of area mid)) → area_at area last.areas ≡ settled (with_records size (bytes ∷ []) old)
+    append_done done =
+        done
+        ∙ ap (λ (p : ℕ). settled (with_bytes p (1 ∷ []) (contents_of area mid))) is_place
+        ∙ ap (λ (xs : List ℕ). settled (with_bytes (end_place size old) (1 ∷ []) xs)) is_staged
+        ∙ ap settled (written_is size old bytes refl closed)
 
-      pub append_records : records size (contents_of area last) ≡ records size old ++ bytes ∷ []
-      append_records = ap (λ (xs : List ℕ). records size xs) is_written ∙ records-written size old bytes refl closed
-
-      pub append_closed : IsClosed size (contents_of area last)
-      append_closed = subst (λ (xs : List ℕ). IsClosed size xs) (sym is_written) (closed-written size old bytes refl closed)
-
--- closing an end: `mid` has only more room than `first`
-module _ (area place size : ℕ) (first mid last : RackState) (same : mid.areas ≡ first.areas) (past : mid.past ≡ first.past) (is_place : place ≡ end_place size (contents_of area first))
-    (few : length (contents_of area first) ≤ place + size + 1) where
+-- closing an end where no closed gate stands
+module _ (area place size : ℕ) (first last : RackState) (is_place : place ≡ end_place size (contents_of area first)) (few : length (contents_of area first) ≤ end_place size (contents_of area first) + size + 1) where
   abbrev old_bytes : List ℕ
   old_bytes = contents_of area first
 
-  contents_same : contents_of area mid ≡ old_bytes
-  contents_same = ap (λ (a : Areas). (area_at area a).contents) same
+  keeps : (image : List ℕ) → SameOutside place 1 old_bytes image → IsClosingOf size old_bytes image
+  keeps image same = record {
+    reads = end_keeps size old_bytes few image (subst (λ (p : ℕ). SameOutside p 1 old_bytes image) is_place same);
+    no_shorter = same.no_shorter;
+    no_longer = omega (arith, outside_long place 1 old_bytes image same, is_place);
+  }
 
-  few_at : length old_bytes ≤ end_place size old_bytes + size + 1
-  few_at = omega (arith, is_place)
+  pub closing_moments : AtEachMoment (EachImage area (SameOutside place 1 old_bytes) first.areas) first last → AtEachMoment (EachImage area (IsClosingOf size old_bytes) first.areas) first last
+  closing_moments moments = each_weaker area (SameOutside place 1 old_bytes) (IsClosingOf size old_bytes) first.areas first last keeps moments
 
-  keeps : (image : List ℕ) → SameOutside place 1 (contents_of area mid) image → records size image ≡ records size old_bytes
-  keeps image outside =
-      let P : ℕ → List ℕ → Type 0 = λ p xs. SameOutside p 1 xs image in
-      end_keeps size old_bytes few_at image (subst (λ (p : ℕ). P p old_bytes) is_place (subst (λ (xs : List ℕ). P place xs) contents_same outside))
-
-  pub close_moments : AtEachMoment (EachImage area (SameOutside place 1 (contents_of area mid)) mid.areas) mid last → AtEachMoment (EachImage area (λ image. records size image ≡ records size old_bytes) first.areas) first last
-  close_moments moments =
-      let each : AtEachMoment (EachImage area (λ image. records size image ≡ records size old_bytes) mid.areas) mid last =
-      each_weaker area (SameOutside place 1 (contents_of area mid)) (λ image. records size image ≡ records size old_bytes) mid.areas mid last keeps moments in
-      let moved : AtEachMoment (EachImage area (λ image. records size image ≡ records size old_bytes) first.areas) mid last =
-      subst (λ (a : Areas). AtEachMoment (EachImage area (λ image. records size image ≡ records size old_bytes) a) mid last) same each in
-      record { passed = moved.passed; grew = moved.grew ∙ ap (λ (xs : List Areas). xs ++ moved.passed) past; each = moved.each; now = moved.now }
-
-  module _ (done : area_at area last.areas ≡ settled (with_bytes place (0 ∷ []) (contents_of area mid))) where
-    is_shut : contents_of area last ≡ with_bytes (end_place size old_bytes) (0 ∷ []) old_bytes
-    is_shut =
-        contents_at_rest area last (with_bytes place (0 ∷ []) (contents_of area mid)) done
-        ∙ ap (λ (p : ℕ). with_bytes p (0 ∷ []) (contents_of area mid)) is_place ∙ ap (λ (xs : List ℕ). with_bytes (end_place size old_bytes) (0 ∷ []) xs) contents_same
-
-    pub close_records : records size (contents_of area last) ≡ records size old_bytes
-    close_records = ap (λ (xs : List ℕ). records size xs) is_shut ∙ end_keeps size old_bytes few_at (with_bytes (end_place size old_bytes) (0 ∷ []) old_bytes) (shut_same size old_bytes few_at)
-
-    pub close_closed : IsClosed size (contents_of area last)
-    close_closed = subst (λ (xs : List ℕ). IsClosed size xs) (sym is_shut) (closed-shut size old_bytes few_at)
+  pub closing_done : area_at area last.areas ≡ settled (with_bytes place (0 ∷ []) old_bytes) → area_at area last.areas ≡ settled (with_records size [] old_bytes)
+  closing_done done = done ∙ ap (λ (p : ℕ). settled (with_bytes p (0 ∷ []) old_bytes)) is_place
 
 -- emptying
-module _ (area size : ℕ) (first last : RackState) where
-  pub reset_moments : 0 < length (records size (contents_of area first)) → AtEachMoment (EachImage area (SameOutside 0 1 (contents_of area first)) first.areas) first last
-      → AtEachMoment (EachImage area (λ image. IsOldOrNone (records size (contents_of area first)) (records size image)) first.areas) first last
-  reset_moments some moments =
-      each_weaker area (SameOutside 0 1 (contents_of area first)) (λ image. IsOldOrNone (records size (contents_of area first)) (records size image)) first.areas first last
-      (λ image same. reset_image size (contents_of area first) image some same) moments
+pub reset_moments : (area size : ℕ) (first last : RackState) → 0 < length (records size (contents_of area first)) → AtEachMoment (EachImage area (SameOutside 0 1 (contents_of area first)) first.areas) first last
+    → AtEachMoment (EachImage area (IsResetOf size (contents_of area first)) first.areas) first last
+reset_moments area size first last some moments =
+    each_weaker area (SameOutside 0 1 (contents_of area first)) (IsResetOf size (contents_of area first)) first.areas first last
+    (λ image same. record {
+      reads = reset_image size (contents_of area first) image some same;
+      no_shorter = same.no_shorter;
+      no_longer = outside_long 0 1 (contents_of area first) image same;
+    }) moments
 
-  module _ (done : area_at area last.areas ≡ settled (with_bytes 0 (0 ∷ []) (contents_of area first))) where
-    pub reset_records : records size (contents_of area last) ≡ []
-    reset_records = ap (λ (xs : List ℕ). records size xs) (contents_at_rest area last (with_bytes 0 (0 ∷ []) (contents_of area first)) done)
+-- Reading: `first` before, `mid` after the sync, `last` after the reads.
+module _ (area : ℕ) (first mid : RackState) (low : area < 3) (images : ContentsAreImages first.areas) (one : PassesOne first mid) where
+  abbrev Was : List ℕ → Type 0
+  Was = IsImage (area_at area first.areas)
 
-    pub reset_closed : IsClosed size (contents_of area last)
-    reset_closed = subst (λ (xs : List ℕ). IsClosed size xs) (sym (contents_at_rest area last (with_bytes 0 (0 ∷ []) (contents_of area first)) done)) (closed-reset size _)
+  reading_first : AtEachMoment (EachImage area Was first.areas) first first
+  reading_first = started (EachImage area Was first.areas) first (record { images = λ image is. is; others = others_same area first.areas })
 
--- only faults or room changed
-pub same_moment : (P : Areas → Type 0) (first mid last : RackState) → AtEachMoment P first mid → last.areas ≡ mid.areas → last.past ≡ mid.past → AtEachMoment P first last
-same_moment P first mid last moments areas past = record { passed = moments.passed; grew = past ∙ moments.grew; each = moments.each; now = subst P (sym areas) moments.now }
+  pub reading_failed : mid.areas ≡ first.areas → AtEachMoment (EachImage area Was first.areas) first mid
+  reading_failed same = goes_on (EachImage area Was first.areas) first first mid reading_first one (subst (EachImage area Was first.areas) (sym same) reading_first.now)
 
--- Opening: at first, once the area is on the disk, and once its end is closed.
-module _ (area size : ℕ) (first : RackState) where
-  abbrev pub Before : Areas → Type 0
-  Before = EachImage area (λ image. AreOfAnImage area size first.areas (records size image)) first.areas
+  module _ (synced : ChangesOnly area IsSynced first.areas mid.areas) (last : RackState) (only : OnlyRead mid last) where
+    areas_read : last.areas ≡ mid.areas
+    areas_read = ap (λ (s : RackState). s.areas) only
 
-  pub open_first : Before first.areas
-  open_first = record { images = λ image is. (image, is, refl); others = others_same area first.areas }
+    pub read_contents : contents_of area last ≡ contents_of area first
+    read_contents = ap (λ (a : Areas). (area_at area a).contents) areas_read ∙ ap (λ (a : Area). a.contents) synced.changed
 
-  pub open_failed : (mid : RackState) → mid.areas ≡ first.areas → PassesOne first mid → AtEachMoment Before first mid
-  open_failed mid same one = goes_on Before first first mid (started Before first open_first) one (subst Before (sym same) open_first)
+    pub read_rests : IsAtRest last.areas area
+    read_rests = rests_same area mid.areas last.areas (ap (λ (a : Areas). area_at area a) areas_read) (rests_settled mid.areas area (contents_of area first) synced.changed)
 
-  module _ (low : area < 3) (images : ContentsAreImages first.areas) where
-    abbrev bytes : List ℕ
-    bytes = contents_of area first
+    reading_synced : AtEachMoment (EachImage area Was first.areas) first mid
+    reading_synced =
+        let kept : contents_of area mid ≡ contents_of area first = ap (λ (a : Area). a.contents) synced.changed in
+        goes_on (EachImage area Was first.areas) first first mid reading_first one
+        (each_at_rest area Was first.areas mid.areas (rests_settled mid.areas area (contents_of area first) synced.changed) (subst Was (sym kept) (images area low)) synced.others)
 
-    pub open_synced : (mid : RackState) → ChangesOnly area IsSynced first.areas mid.areas → PassesOne first mid → AtEachMoment Before first mid
-    open_synced mid synced one =
-        goes_on Before first first mid (started Before first open_first) one
-        (each_at_rest area (λ image. AreOfAnImage area size first.areas (records size image)) first.areas mid.areas bytes synced.changed (bytes, images area low, refl) synced.others)
+    pub reading_done : AtEachMoment (EachImage area Was first.areas) first last
+    reading_done = same_moment (EachImage area Was first.areas) first mid last reading_synced areas_read (ap (λ (s : RackState). s.past) only)
 
-    pub open_closed : (mid last : RackState) → contents_of area mid ≡ bytes → AtEachMoment Before first mid
-        → AtEachMoment (EachImage area (λ image. records size image ≡ records size (contents_of area mid)) mid.areas) mid last → AtEachMoment Before first last
-    open_closed mid last same so_far then =
-        each_after area (λ image. records size image ≡ records size (contents_of area mid)) (λ image. AreOfAnImage area size first.areas (records size image)) first mid last
-        (λ image is. (bytes, images area low, is ∙ ap (λ (xs : List ℕ). records size xs) same)) so_far then
+-- Opening: `read` after the reading, `mid` once there is room, `last` once the end is closed.
+module _ (area size : ℕ) (first read mid last : RackState) (reading : AtEachMoment (EachImage area (IsImage (area_at area first.areas)) first.areas) first read) where
+  abbrev Opens : List ℕ → Type 0
+  Opens = IsOpeningOf area size first.areas
 
--- nothing happened to an area at rest
-pub stays_at_rest : (area size : ℕ) (first : RackState) → area_at area first.areas ≡ settled (contents_of area first)
-    → EachImage area (λ image. records size image ≡ records size (contents_of area first)) first.areas first.areas
-stays_at_rest area size first rest =
-    each_at_rest area (λ image. records size image ≡ records size (contents_of area first)) first.areas first.areas (contents_of area first) rest refl (others_same area first.areas)
+  pub opening_read : AtEachMoment (EachImage area Opens first.areas) first read
+  opening_read =
+      each_weaker area (IsImage (area_at area first.areas)) Opens first.areas first read (λ image is. record { before = image; was = is; now = closing_itself size image }) reading
 
-pub rest_then : (area : ℕ) (first mid : RackState) → mid.areas ≡ first.areas → area_at area first.areas ≡ settled (contents_of area first) → area_at area mid.areas ≡ settled (contents_of area mid)
-rest_then area first mid same rest = subst (λ (a : Areas). area_at area a ≡ settled (area_at area a).contents) (sym same) rest
+  module _ (areas : mid.areas ≡ read.areas) (past : mid.past ≡ read.past) where
+    pub opening_roomy : AtEachMoment (EachImage area Opens first.areas) first mid
+    opening_roomy = same_moment (EachImage area Opens first.areas) first read mid opening_read areas past
+
+    pub opening_closed : ReadsAnImage read.areas area → AtEachMoment (EachImage area (IsClosingOf size (contents_of area mid)) mid.areas) mid last → AtEachMoment (EachImage area Opens first.areas) first last
+    opening_closed image closing =
+        let was : IsImage (area_at area first.areas) (contents_of area read) = reading.now.images (contents_of area read) image in
+        let same : contents_of area mid ≡ contents_of area read = ap (λ (a : Areas). (area_at area a).contents) areas in
+        each_after area (IsClosingOf size (contents_of area mid)) Opens first mid last
+        (λ it closes. record { before = contents_of area mid; was = subst (λ (xs : List ℕ). IsImage (area_at area first.areas) xs) (sym same) was; now = closes }) opening_roomy closing

@@ -57,7 +57,7 @@ ends_within size zero (byte ∷ bytes) within = elim (gate_cases size byte bytes
       omega arith
 ]
 
-take_nil : (n : ℕ) → take {A = ℕ} n [] ≡ []
+pub take_nil : (n : ℕ) → take {A = ℕ} n [] ≡ []
 take_nil zero = refl
 take_nil (suc n) = refl
 

@@ -2,10 +2,14 @@
 // old ones and the new one, whatever a crash leaves.
 #![tactic(auto)]
 
+mod faults;
 mod log;
+mod reading;
 mod scan;
 mod steps;
 #[cfg(test)]
 mod tests;
 
-pub use log::{GateLog, LogAppend, LogOpen, OpenedLog};
+pub use faults::{LogAppend, LogOpen, LogRead};
+pub use log::{GateLog, OpenedLog, ReadRecords};
+pub use reading::ReadLog;

@@ -1,64 +1,19 @@
 // The log itself: opening what a crash may have left, appending, and emptying. A log is sound until a call on its
 // rack fails; then it is opened again.
-ghost use Rattle.std.specs.Prelude.{◌≡◌, ℕ, ◌+◌, ◌*◌, ◌<◌, ◌≤◌, ◌^◌, ◌↔◌, ◌++◌, [], ◌∷◌, length, true, false, IsTrue, IfOk, IfErr, OnOk, OnErr, IsErrOf};
+ghost use Rattle.std.specs.Prelude.{◌≡◌, ◌≢◌, ℕ, ◌+◌, ◌*◌, ◌<◌, ◌≤◌, ◌^◌, ◌↔◌, ◌++◌, [], ◌∷◌, length, take, true, false, IsTrue, IfOk, IfErr, OnOk, OnErr, IsErr, IsErrOf};
 ghost use Rattle.std.specs.List.{concat};
-ghost use Rattle.mix_base.specs.Faults.{Rose};
-ghost use Rattle.replay_disk.specs.Disk.{RackState, area_at, contents_of, settled, CountsFault, OnlyFaults};
-ghost use Rattle.replay_disk.specs.Moments.{AtEachMoment};
-ghost use Rattle.gate_log.specs.declared.log.LogOpen.TheVariants.{Failed as rack_failed, Memory as want_of_memory};
-ghost use Rattle.gate_log.specs.Answers.{IfOverfull};
-ghost use Rattle.gate_log.specs.Log.{LogState, Stands, EachImage, OthersStay, IsOldOrWith, IsOldOrNone, AreOfAnImage, records_of};
-ghost use Rattle.gate_log.specs.Records.{records, end_place, IsClosed};
+ghost use Rattle.replay_disk.specs.Disk.{RackState, contents_of, ReadsAnImage, MadeNoCall, OnlyRead, Owes};
+ghost use Rattle.gate_log.specs.Faults.{IfOverfull};
+ghost use Rattle.gate_log.specs.Log.{LogState, Stands, AppendLeaves, ResetLeaves, OpeningLeaves, OthersStayThrough, records_of, most_reads};
+ghost use Rattle.gate_log.specs.Records.{records, with_records, emptied, ClosesEnd};
 
-use super::scan::{Found, scan};
+use super::scan::read_front;
 use super::steps::{CLOSED, append_at, write_synced};
-use mix_base::{Bytes, Failed, Memory};
+use crate::{LogAppend, LogOpen, LogRead, ReadLog};
+use mix_base::{Bytes, Failed};
 use replay_disk::Rack;
-use std::alloc::{AllocError, Global};
+use std::alloc::Global;
 use std::marker::Model;
-
-/// Why a log wasn't opened.
-#[derive(Clone, Copy, Debug, PartialEq, Eq)]
-pub enum LogOpen {
-    /// A call on the rack failed.
-    Failed,
-    /// More records than the limit stand there; `at` is the place of the gate byte behind the last allowed one.
-    Overfull { at: u64 },
-    Memory,
-}
-
-/// Why a record wasn't appended.
-#[derive(Clone, Copy, Debug, PartialEq, Eq)]
-pub enum LogAppend {
-    /// A call on the rack failed: the record may be there or not. The log must be opened again.
-    Failed,
-    /// The log has as many records as it may have. Nothing was done.
-    LogFull,
-}
-
-impl From<Failed> for LogOpen {
-    ghost from_gives = { λ _ e. e ≡ rack_failed };
-
-    fn from(_: Failed) -> Self {
-        LogOpen::Failed
-    }
-}
-
-impl From<AllocError> for LogOpen {
-    ghost from_gives = { λ _ e. e ≡ want_of_memory };
-
-    fn from(_: AllocError) -> Self {
-        LogOpen::Memory
-    }
-}
-
-impl From<Memory> for LogOpen {
-    ghost from_gives = { λ _ e. e ≡ want_of_memory };
-
-    fn from(_: Memory) -> Self {
-        LogOpen::Memory
-    }
-}
 
 /// A log of records of one size on one area.
 #[derive(Drop)]
@@ -88,6 +43,13 @@ pub struct OpenedLog {
     pub records: Bytes,
 }
 
+/// The first records of an area, one after the other, and whether there are more.
+#[derive(Drop)]
+pub struct ReadRecords {
+    pub records: Bytes,
+    pub more: bool,
+}
+
 impl GateLog {
     /// Opens the log on an area: reads its records, and closes its end where no closed gate stands there. Asks an
     /// area below 3, a size of 1 to 63 bytes and a limit of 1 to 2^26 records.
@@ -109,58 +71,49 @@ impl GateLog {
         ensures stands { R.tells → IfOk result (λ opened. Stands opened.log (R.state rack.new)) }
         ensures log { IfOk result (λ opened. opened.log ≡ record { area = area; size = size; limit = limit; count = opened.log.count; sound = true }) }
         ensures within { IfOk result (λ opened. opened.log.count ≤ limit) }
+        ensures whole { IfOk result (λ opened. length opened.records ≡ size * opened.log.count) }
         ensures overfull { R.tells → IfErr result (IfOverfull size limit (contents_of area (R.state rack.old))) }
-        ensures unwritten { R.tells → (at : ℕ) → IsErrOf result (LogOpen.Overfull at) → contents_of area (R.state rack.new) ≡ contents_of area (R.state rack.old) }
+
+        // One byte is written, 00 at the end place, and none where the end is closed or where it is refused.
+        ensures contents { R.tells → OnOk result (ClosesEnd size (contents_of area (R.state rack.old)) (contents_of area (R.state rack.new))) }
+        ensures unwritten { R.tells → IfErr result (λ fault. fault ≢ LogOpen.Failed → contents_of area (R.state rack.new) ≡ contents_of area (R.state rack.old)) }
 
         // At every moment a crash leaves the records of an image that was there before.
-        ensures each_moment { R.tells → AtEachMoment (EachImage area (λ image. AreOfAnImage area size (R.state rack.old).areas (records size image)) (R.state rack.old).areas) (R.state rack.old) (R.state rack.new) }
+        ensures each_moment { R.tells → OpeningLeaves area size (R.state rack.old) (R.state rack.new) }
+        ensures image { R.tells → ReadsAnImage (R.state rack.new).areas area }
         ensures room { R.tells → (R.state rack.old).room ≤ (R.state rack.new).room + 1 }
-        ensures failed { IsErrOf result LogOpen.Failed → Rose (R.state rack.old).faults (R.state rack.new).faults }
-        ensures no_fault { ¬ IsErrOf result LogOpen.Failed → (R.state rack.new).faults ≡ (R.state rack.old).faults }
-        ensures arms { (R.state rack.new).arms ≡ (R.state rack.old).arms }
-        ensures crashes { (R.state rack.new).crashes ≡ (R.state rack.old).crashes }
+        ensures owes { Owes (most_reads limit + 3) (IsErrOf result LogOpen.Failed) (R.state rack.old) (R.state rack.new) }
     {
-        rack.sync(area)?;
-        let Found {
-            records,
-            count,
-            closed,
-        } = scan(alloc, rack, area, size, limit)?;
-        close_end(rack, area, count * (size as u64 + 1), size, closed)?;
-        let log = GateLog {
-            area,
-            size,
-            limit,
-            count,
-            sound: true,
-        };
-        let records = Bytes::of(records);
-        Ok(OpenedLog { log, records })
+        let read = ReadLog::read(alloc, rack, area, size, limit)?;
+        rack.room(1)?;
+        Ok(read.close(rack)?)
     }
 
-    /// The records of an area, one after the other, as a log on it would have them. Nothing is written. Asks what `open`
-    /// asks.
+    /// The first `limit` records of an area, one after the other, as a log on it would have them, and whether there are
+    /// more. Nothing is written, nor brought to the disk. Asks what `open` asks.
     pub fn read_records<R: Rack>(
         alloc: Global,
         rack: &mut R,
         area: u8,
         size: usize,
         limit: u64,
-    ) -> Result<Bytes, LogOpen>
+    ) -> Result<ReadRecords, LogRead>
         requires area { area < 3 }
         requires some { 0 < size }
         requires size { size ≤ 63 }
         requires limit { limit ≤ 2 ^ 26 }
-        ensures records { R.tells → IfOk result (λ found. found ≡ concat (records size (contents_of area (R.state rack.old)))) }
-        ensures fits { R.tells → OnOk result (length (records size (contents_of area (R.state rack.old))) ≤ limit) }
-        ensures short { IfOk result (λ found. length found ≤ size * limit) }
-        ensures overfull { R.tells → IfErr result (IfOverfull size limit (contents_of area (R.state rack.old))) }
-        ensures same { OnlyFaults (R.state rack.old) (R.state rack.new) }
-        ensures failed { IsErrOf result LogOpen.Failed → Rose (R.state rack.old).faults (R.state rack.new).faults }
-        ensures not_failed { ¬ IsErrOf result LogOpen.Failed → R.state rack.new ≡ R.state rack.old }
+        ensures records { R.tells → IfOk result (λ found. found.records ≡ concat (take limit (records size (contents_of area (R.state rack.old))))) }
+        ensures more { R.tells → IfOk result (λ found. IsTrue found.more ↔ (limit < length (records size (contents_of area (R.state rack.old))))) }
+        ensures short { IfOk result (λ found. length found.records ≤ size * limit) }
+        ensures same { OnlyRead (R.state rack.old) (R.state rack.new) }
+        ensures image { R.tells → ReadsAnImage (R.state rack.new).areas area }
+        ensures owes { Owes (most_reads limit) (IsErrOf result LogRead.Failed) (R.state rack.old) (R.state rack.new) }
     {
-        let found = scan(alloc, rack, area, size, limit)?;
-        Ok(Bytes::of(found.records))
+        let front = read_front(alloc, rack, area, size, limit)?;
+        Ok(ReadRecords {
+            records: Bytes::of(front.records),
+            more: front.gate.is_record(),
+        })
     }
 
     /// Takes an area for a log that is empty, whatever stood there. Asks what `open` asks, and room for one byte.
@@ -180,50 +133,45 @@ impl GateLog {
         // The log is empty, and stands on the rack.
         ensures log { IfOk result (λ log. log ≡ record { area = area; size = size; limit = limit; count = 0; sound = true }) }
         ensures emptied { R.tells → OnOk result (records size (contents_of area (R.state rack.new)) ≡ []) }
+        ensures contents { R.tells → OnOk result (contents_of area (R.state rack.new) ≡ emptied (contents_of area (R.state rack.old))) }
         ensures stands { R.tells → IfOk result (λ log. Stands log (R.state rack.new)) }
 
-        ensures others { R.tells → AtEachMoment (OthersStay area (R.state rack.old).areas) (R.state rack.old) (R.state rack.new) }
+        ensures others { R.tells → OthersStayThrough area (R.state rack.old) (R.state rack.new) }
+        ensures image { R.tells → ReadsAnImage (R.state rack.new).areas area }
         ensures room { R.tells → (R.state rack.old).room ≤ (R.state rack.new).room + 1 }
-        ensures fault { CountsFault (R.state rack.old) (R.state rack.new) result }
+        ensures owes { Owes 2 (IsErr result) (R.state rack.old) (R.state rack.new) }
     {
         write_synced(rack, area, 0, &[CLOSED])?;
-        Ok(GateLog {
-            area,
-            size,
-            limit,
-            count: 0,
-            sound: true,
-        })
+        Ok(GateLog::sound(area, size, limit, 0))
     }
 
     /// Appends a record of the log's size. Asks a sound log that stands on the rack, and room for the record and two
-    /// bytes. Takes no memory.
+    /// bytes. Makes at most four calls of the rack. Takes no memory.
     pub fn append<R: Rack>(&mut self, rack: &mut R, bytes: &[u8]) -> Result<(), LogAppend>
         requires sound { IsTrue self.old.sound }
         requires size { length bytes.now ≡ self.old.size }
         requires stands { R.tells → Stands self.old (R.state rack.old) }
         requires room { R.tells → self.old.size + 2 ≤ (R.state rack.old).room }
 
-        // After Ok the record is there.
+        // After Ok the record is there, between an open gate and a closed one.
         ensures appended { R.tells → OnOk result (records_of self.old (R.state rack.new) ≡ records_of self.old (R.state rack.old) ++ bytes.now ∷ []) }
+        ensures contents { R.tells → OnOk result (contents_of self.old.area (R.state rack.new) ≡ with_records self.old.size (bytes.now ∷ []) (contents_of self.old.area (R.state rack.old))) }
         ensures stands { R.tells → OnOk result (Stands self.new (R.state rack.new)) }
         ensures counted { OnOk result (self.new ≡ record self.old { count = self.old.count + 1 }) }
 
         // A full log is refused, and nothing is done.
         ensures full { IsErrOf result LogAppend.LogFull ↔ (self.old.count ≡ self.old.limit) }
         ensures full_log { IsErrOf result LogAppend.LogFull → self.new ≡ self.old }
-        ensures full_rack { IsErrOf result LogAppend.LogFull → R.state rack.new ≡ R.state rack.old }
+        ensures full_rack { IsErrOf result LogAppend.LogFull → MadeNoCall (R.state rack.old) (R.state rack.new) }
 
         // At every moment a crash leaves the old records, or these and the new one.
-        ensures each_moment { R.tells → AtEachMoment (EachImage self.old.area (λ image. IsOldOrWith (records_of self.old (R.state rack.old)) bytes.now (records self.old.size image)) (R.state rack.old).areas) (R.state rack.old) (R.state rack.new) }
+        ensures each_moment { R.tells → AppendLeaves self.old (bytes.now ∷ []) (R.state rack.old) (R.state rack.new) }
+        ensures image { R.tells → ReadsAnImage (R.state rack.new).areas self.old.area }
         ensures room { R.tells → (R.state rack.old).room ≤ (R.state rack.new).room + self.old.size + 2 }
 
         // It fails only where the rack did, and must then be opened again.
-        ensures failed { IsErrOf result LogAppend.Failed → Rose (R.state rack.old).faults (R.state rack.new).faults }
         ensures failed_log { IsErrOf result LogAppend.Failed → self.new ≡ record self.old { sound = false } }
-        ensures no_fault { OnOk result ((R.state rack.new).faults ≡ (R.state rack.old).faults) }
-        ensures arms { (R.state rack.new).arms ≡ (R.state rack.old).arms }
-        ensures crashes { (R.state rack.new).crashes ≡ (R.state rack.old).crashes }
+        ensures owes { Owes 4 (IsErrOf result LogAppend.Failed) (R.state rack.old) (R.state rack.new) }
     {
         if self.count == self.limit {
             return Err(LogAppend::LogFull);
@@ -247,20 +195,21 @@ impl GateLog {
         requires stands { R.tells → Stands self.old (R.state rack.old) }
         requires room { R.tells → 1 ≤ (R.state rack.old).room }
 
-        // After Ok there is no record.
+        // After Ok there is no record: a closed gate stands first.
         ensures emptied { R.tells → OnOk result (records_of self.old (R.state rack.new) ≡ []) }
+        ensures contents { R.tells → OnOk result (contents_of self.old.area (R.state rack.new) ≡ emptied (contents_of self.old.area (R.state rack.old))) }
         ensures stands { R.tells → OnOk result (Stands self.new (R.state rack.new)) }
         ensures log { OnOk result (self.new ≡ record self.old { count = 0 }) }
 
         // Where there was a record, a crash leaves at every moment the old records or none.
-        ensures each_moment { R.tells → 0 < self.old.count →
-            AtEachMoment (EachImage self.old.area (λ image. IsOldOrNone (records_of self.old (R.state rack.old)) (records self.old.size image)) (R.state rack.old).areas) (R.state rack.old) (R.state rack.new) }
-        ensures others { R.tells → AtEachMoment (OthersStay self.old.area (R.state rack.old).areas) (R.state rack.old) (R.state rack.new) }
+        ensures each_moment { R.tells → 0 < self.old.count → ResetLeaves self.old (R.state rack.old) (R.state rack.new) }
+        ensures others { R.tells → OthersStayThrough self.old.area (R.state rack.old) (R.state rack.new) }
+        ensures image { R.tells → ReadsAnImage (R.state rack.new).areas self.old.area }
         ensures room { R.tells → (R.state rack.old).room ≤ (R.state rack.new).room + 1 }
 
         // It fails only where the rack did, and must then be opened again.
         ensures failed_log { OnErr result (self.new ≡ record self.old { sound = false }) }
-        ensures fault { CountsFault (R.state rack.old) (R.state rack.new) result }
+        ensures owes { Owes 2 (IsErr result) (R.state rack.old) (R.state rack.new) }
     {
         match write_synced(rack, self.area, 0, &[CLOSED]) {
             Ok(()) => {
@@ -288,38 +237,22 @@ impl GateLog {
     {
         self.sound
     }
-}
 
-/// Closes the end of a log that is at rest, unless it is closed: afterwards a byte that isn't an open gate stands
-/// there. Makes its room.
-fn close_end<R: Rack>(
-    rack: &mut R,
-    area: u8,
-    at: u64,
-    size: usize,
-    closed: bool,
-) -> Result<(), LogOpen>
-    requires area { area < 3 }
-    requires range { at < 2 ^ 40 }
-    requires at_rest { R.tells → area_at area (R.state rack.old).areas ≡ settled (contents_of area (R.state rack.old)) }
-    requires place { R.tells → at ≡ end_place size (contents_of area (R.state rack.old)) }
-    requires shut { R.tells → closed ≡ true → IsClosed size (contents_of area (R.state rack.old)) }
-    requires ended { R.tells → closed ≡ false → length (contents_of area (R.state rack.old)) ≤ at + size + 1 }
-    ensures at_rest { R.tells → OnOk result (area_at area (R.state rack.new).areas ≡ settled (contents_of area (R.state rack.new))) }
-    ensures records { R.tells → OnOk result (records size (contents_of area (R.state rack.new)) ≡ records size (contents_of area (R.state rack.old))) }
-    ensures closed { R.tells → OnOk result (IsClosed size (contents_of area (R.state rack.new))) }
-    ensures each_moment { R.tells → AtEachMoment (EachImage area (λ image. records size image ≡ records size (contents_of area (R.state rack.old))) (R.state rack.old).areas) (R.state rack.old) (R.state rack.new) }
-    ensures room { R.tells → (R.state rack.old).room ≤ (R.state rack.new).room + 1 }
-    ensures overfull { (at : ℕ) → ¬ IsErrOf result (LogOpen.Overfull at) }
-    ensures failed { IsErrOf result LogOpen.Failed → Rose (R.state rack.old).faults (R.state rack.new).faults }
-    ensures no_fault { ¬ IsErrOf result LogOpen.Failed → (R.state rack.new).faults ≡ (R.state rack.old).faults }
-    ensures arms { (R.state rack.new).arms ≡ (R.state rack.old).arms }
-    ensures crashes { (R.state rack.new).crashes ≡ (R.state rack.old).crashes }
-{
-    if closed {
-        return Ok(());
+    /// A sound log over what was read or made.
+    pub(crate) fn sound(area: u8, size: usize, limit: u64, count: u64) -> GateLog
+        requires area { area < 3 }
+        requires some { 0 < size }
+        requires size { size ≤ 63 }
+        requires limit { limit ≤ 2 ^ 26 }
+        requires count { count ≤ limit }
+        ensures { result ≡ record { area = area; size = size; limit = limit; count = count; sound = true } }
+    {
+        GateLog {
+            area,
+            size,
+            limit,
+            count,
+            sound: true,
+        }
     }
-    rack.room(1)?;
-    write_synced(rack, area, at, &[CLOSED])?;
-    Ok(())
 }

@@ -1,9 +1,9 @@
-// A log over the rack in memory: what stands in its area after a crash at each call of an append, what is read at
-// opening, and when a log is full.
+// A log over the rack in memory: what stands in its area after a crash at each call of an append, what is read and
+// written at opening, which calls an opening makes, and the bytes that appending and emptying leave.
 ghost use Rattle.std.specs.Prelude.{◌≡◌, ◌+◌, ◌≤◌, ◌<◌, ◌^◌, length, IsTrue};
 ghost use Rattle.gate_log.specs.Log.{Stands};
 
-use crate::{GateLog, LogAppend, LogOpen};
+use crate::{GateLog, LogAppend, LogOpen, LogRead};
 use mix_base::Memory;
 use replay_disk::{CrashRack, MemRack, Rack};
 use std::alloc::Global;
@@ -90,6 +90,72 @@ fn opens_with<R: Rack>(alloc: Global, rack: &mut R, records: &[u8]) -> bool {
     }
 }
 
+/// What an opening of the log of area 0 is refused for, on a rack that is armed at one of its calls.
+fn opens_armed<R: CrashRack>(alloc: Global, rack: &mut R, calls: u64) -> Option<LogOpen>
+    requires { 0 < calls }
+{
+    rack.arm(calls);
+    match GateLog::open(alloc, rack, 0, 32, 4) {
+        Ok(_) => None,
+        Err(fault) => Some(fault),
+    }
+}
+
+/// Appends two records, empties the log and appends a third; None where a call fails. Answers whether the log is sound,
+/// and its count.
+fn append_reset_append<R: Rack>(
+    log: &mut GateLog,
+    rack: &mut R,
+    records: &[[u8; 32]; 3],
+) -> Result<Option<(bool, u64)>, Memory>
+    requires sound { IsTrue log.old.sound }
+    requires size { log.old.size ≡ 32 }
+    requires stands { R.tells → Stands log.old (R.state rack.old) }
+{
+    rack.room(103)?;
+    let Ok(()) = log.append(rack, &records[0]) else {
+        return Ok(None);
+    };
+    let Ok(()) = log.append(rack, &records[1]) else {
+        return Ok(None);
+    };
+    let Ok(()) = log.reset(rack) else {
+        return Ok(None);
+    };
+    let Ok(()) = log.append(rack, &records[2]) else {
+        return Ok(None);
+    };
+    Ok(Some((log.is_sound(), log.count())))
+}
+
+fn open_and_reset<R: Rack>(
+    alloc: Global,
+    rack: &mut R,
+    records: &[[u8; 32]; 3],
+) -> Result<Option<(bool, u64)>, Memory> {
+    match GateLog::open(alloc, rack, 0, 32, 4) {
+        Ok(opened) => {
+            let mut log = opened.log;
+            append_reset_append(&mut log, rack, records)
+        }
+        Err(_) => Ok(None),
+    }
+}
+
+/// The first records of area 0, at most so many, and whether there are more.
+fn reads<R: Rack>(
+    alloc: Global,
+    rack: &mut R,
+    limit: u64,
+    records: &[u8],
+    more: bool,
+) -> Result<bool, LogRead>
+    requires { limit ≤ 2 ^ 26 }
+{
+    let found = GateLog::read_records(alloc, rack, 0, 32, limit)?;
+    Ok(found.records.as_slice() == records && found.more == more)
+}
+
 fn start_only<R: Rack>(rack: &mut R) -> Result<Option<u64>, Memory> {
     rack.room(1)?;
     match GateLog::start(rack, 0, 32, 4) {
@@ -125,6 +191,32 @@ fn opens(alloc: Global, rack: &mut MemRack, records: &[u8]) -> bool {
 
 fn starts(rack: &mut MemRack) -> Result<Option<u64>, Memory> {
     start_only(rack)
+}
+
+fn opens_at(alloc: Global, rack: &mut MemRack, calls: u64) -> Option<LogOpen>
+    requires { 0 < calls }
+{
+    opens_armed(alloc, rack, calls)
+}
+
+fn resets(
+    alloc: Global,
+    rack: &mut MemRack,
+    records: &[[u8; 32]; 3],
+) -> Result<Option<(bool, u64)>, Memory> {
+    open_and_reset(alloc, rack, records)
+}
+
+fn reads_at(
+    alloc: Global,
+    rack: &mut MemRack,
+    limit: u64,
+    records: &[u8],
+    more: bool,
+) -> Result<bool, LogRead>
+    requires { limit ≤ 2 ^ 26 }
+{
+    reads(alloc, rack, limit, records, more)
 }
 
 fn overfull(alloc: Global, rack: &mut MemRack, place: u64) -> bool {
@@ -202,5 +294,60 @@ fn a_full_log_is_refused_and_an_overfull_one_not_opened(rt: HostRuntime) -> Resu
     assert!(rt; overfull(alloc, &mut rack, 33));
     assert_eq!(rt; starts(&mut rack)?, Some(0));
     assert!(rt; opens(alloc, &mut rack, b""));
+    Ok(())
+}
+
+/// Whether an opening over an area makes just so many calls of the rack: it fails where the rack is armed at one of them,
+/// and else not.
+fn opens_in(alloc: Global, area: Area, calls: u64) -> Result<bool, Memory>
+    requires { calls < 10 }
+{
+    for call in 0..calls + 1 {
+        let mut rack = holding(alloc, area_bytes(alloc, area)?);
+        let want = if call < calls {
+            Some(LogOpen::Failed)
+        } else {
+            None
+        };
+        if opens_at(alloc, &mut rack, call + 1) != want {
+            return Ok(false);
+        }
+    }
+    Ok(true)
+}
+
+// A sync, a read of the block and one of the gate behind it; and where the end isn't closed a write and a sync.
+#[test]
+fn an_opening_makes_three_calls_and_two_more_to_close_the_end(rt: HostRuntime) -> Result<(), Fail> {
+    assert!(rt; opens_in(rt.alloc(), Area::Whole(1), 3)?);
+    assert!(rt; opens_in(rt.alloc(), Area::Short(1), 5)?);
+    Ok(())
+}
+
+#[test]
+fn a_record_after_emptying_closes_what_is_behind_it(rt: HostRuntime) -> Result<(), Fail> {
+    let alloc = rt.alloc();
+    let mut rack = MemRack::new(alloc);
+    let done = resets(alloc, &mut rack, &[[0xa1; 32], [0xb2; 32], [0xc3; 32]])?;
+    assert_eq!(rt; done, Some((true, 1)));
+    let mut want = vec![in alloc; 1]?;
+    want.extend_from_slice(&[0xc3; 32])?;
+    want.push(0)?;
+    want.extend_from_slice(&[0xb2; 32])?;
+    want.push(0)?;
+    assert_eq!(rt; rack.bytes(0), want.as_slice());
+    Ok(())
+}
+
+#[test]
+fn the_first_records_are_read_and_more_are_told(rt: HostRuntime) -> Result<(), Fail> {
+    let alloc = rt.alloc();
+    let mut rack = MemRack::new(alloc);
+    assert_eq!(rt; appends(alloc, &mut rack, 2, 1000)?, Some(Ok(())));
+    assert_eq!(rt; appends(alloc, &mut rack, 2, 1000)?, Some(Ok(())));
+    assert_eq!(rt; reads_at(alloc, &mut rack, 1, &TAG, true), Ok(true));
+    let mut both = TAG.to_vec(alloc)?;
+    both.extend_from_slice(&TAG)?;
+    assert_eq!(rt; reads_at(alloc, &mut rack, 2, &both, false), Ok(true));
     Ok(())
 }

@@ -1,10 +1,10 @@
 -- The first line of what begins with bytes that have no line feed, and the cut of a block at a line feed.
-use Rattle.std.proofs.Common.{◌≡◌, ℕ, ◌+◌, ◌-◌, ◌^◌, ◌<◌, ◌≤◌, ◌⊎◌, List, [], ◌∷◌, ◌++◌, length, take, drop, get_or, Bool, true, false, ◌||◌, ◌&&◌, eqb, leb, ltb, Option, Some, None, Result, Err, IfSome, IsSomeAnd, option_map, refl, sym, ◌∙◌, ap, arith, inl, inr, suc, zero}
+use Rattle.std.proofs.Common.{◌≡◌, ℕ, ◌+◌, ◌-◌, ◌^◌, ◌<◌, ◌≤◌, ◌⊎◌, List, [], ◌∷◌, ◌++◌, length, take, drop, get_or, Bool, true, false, ◌||◌, ◌&&◌, not, eqb, leb, ltb, Option, Some, None, Result, Err, IfSome, IsSomeAnd, option_map, refl, sym, ◌∙◌, ap, arith, inl, inr, suc, zero}
 use Rattle.std.proofs.lemmas.List.{length-drop, take-append-drop, take-take, drop_more, get_or-take, get_or-drop, drop-drop, drop-take, length-take, length-append, append_assoc, append-nil, nil_from_length, take_all}
 use Rattle.std.proofs.lemmas.Bool.Decides.{nat_tests}
 use borrow.Author.Tests.{ltb-true, ltb-false}
-use Rattle.lab_text.specs.declared.lines.LineFault.{LineFault}
-use Rattle.lab_text.specs.declared.lines.LineFault.TheVariants.{BadLine}
+use Rattle.lab_text.specs.declared.faults.LineFault.{LineFault}
+use Rattle.lab_text.specs.declared.faults.LineFault.TheVariants.{BadLine}
 use Rattle.memchr.specs.Find.{IsFirstByte, is_byte}
 use Rattle.mix_base.specs.Reading.{TakesFront}
 use Rattle.lab_text.specs.Readers.{GivesLine, Stays, ReachesEnd}
@@ -74,7 +74,7 @@ pieces_of-front x (y ∷ ys) more h =
 pub record IsPast (used n : ℕ) : Type 0 where
   pub past : (65536 < n) ⊎ (2 ^ 30 < used + n)
 
-within-false : (used size n : ℕ) → n ≤ size → IsPast used n → (text : ℕ) → n ≤ text → leb text 65536 && leb (used + size) (2 ^ 30) ≡ false
+within-false : (used size n : ℕ) → n ≤ size → IsPast used n → (text : ℕ) → n ≤ text → not (passes_limits text (used + size)) ≡ false
 within-false used size n h p text k = elim p.past [ inl a ↦ grind (arith, nat_tests) | inr b ↦ grind (arith, nat_tests) ]
 
 size-long : (p : Piece) → length p.text ≤ size_of p
@@ -101,18 +101,10 @@ take_split n k ys h =
 past-from : (used n : ℕ) → passes_limits n (used + n) ≡ true → IsPast used n
 past-from used n e = record { past = by_or (ltb 65536 n) (ltb (2 ^ 30) (used + n)) e (λ a. inl (ltb-true 65536 n a)) (λ b. inr (ltb-true (2 ^ 30) (used + n) b)) }
 
-within-not : (used text n : ℕ) → n ≡ text → passes_limits text (used + text + 1) ≡ true → leb n 65536 && leb (used + (n + 1)) (2 ^ 30) ≡ false
-within-not used text n e p =
-    by_or (ltb 65536 text) (ltb (2 ^ 30) (used + text + 1)) p
-    (λ (a : ltb 65536 text ≡ true). let l : 65536 < text = ltb-true 65536 text a in within-false used (n + 1) n (omega arith) (record { past = inl (omega arith) }) n (omega arith))
-    (λ (b : ltb (2 ^ 30) (used + text + 1) ≡ true). let l : 2 ^ 30 < used + text + 1 = ltb-true (2 ^ 30) (used + text + 1) b in grind (arith, nat_tests))
-
-within-true : (used text n : ℕ) → n ≡ text → passes_limits text (used + text + 1) ≡ false → leb n 65536 && leb (used + (n + 1)) (2 ^ 30) ≡ true
-within-true used text n e p =
-    let parts = or_false (ltb 65536 text) (ltb (2 ^ 30) (used + text + 1)) p in
-    let short : text ≤ 65536 = ltb-false 65536 text parts.0 in
-    let all : used + text + 1 ≤ 2 ^ 30 = ltb-false (2 ^ 30) (used + text + 1) parts.1 in
-    grind (arith, nat_tests)
+within-same : (used text n : ℕ) (past : Bool) → n ≡ text → passes_limits text (used + text + 1) ≡ past → not (passes_limits n (used + (n + 1))) ≡ not past
+within-same used text n past e p =
+    let behind : used + (n + 1) ≡ used + text + 1 = omega arith in
+    rw (behind, e, p) refl
 
 -- the lines to come are one that is past a limit
 pub too_long_comes : (left : Option (List ℕ)) (used text : ℕ) (line chunk : List ℕ) → has_feed line ≡ false → has_feed chunk ≡ false → text ≡ length line + length chunk → used ≤ 2 ^ 30 → passes_limits text (used + text) ≡ true → IfSome (option_map (λ rest. lines_from used ((line ++ chunk) ++ rest)) left) (λ lines. lines ≡ TooLong ∷ [])
@@ -131,7 +123,7 @@ feed_too_long (Some rest) used text line front after h k e p =
     let size : length all ≡ text = length-append line front ∙ sym e in
     let shape : (line ++ (front ++ 10 ∷ after)) ++ rest ≡ all ++ 10 ∷ (after ++ rest) = simp append_assoc in
     let pieces : pieces_of (all ++ 10 ∷ (after ++ rest)) ≡ (record { text = all; ended = true }) ∷ pieces_of (after ++ rest) = pieces_of-feed all (after ++ rest) (has_feed-append line front h k) in
-    let w : is_within used (record { text = all; ended = true }) ≡ false = within-not used text (length all) size p in
+    let w : is_within used (record { text = all; ended = true }) ≡ false = within-same used text (length all) true size p in
     rw (shape, pieces, w) refl
 
 -- a line that keeps to both limits comes, and then what is behind its line feed
@@ -142,7 +134,7 @@ feed_comes (Some rest) used text line front after h k e p =
     let size : length all ≡ text = length-append line front ∙ sym e in
     let shape : (line ++ (front ++ 10 ∷ after)) ++ rest ≡ all ++ 10 ∷ (after ++ rest) = simp append_assoc in
     let pieces : pieces_of (all ++ 10 ∷ (after ++ rest)) ≡ (record { text = all; ended = true }) ∷ pieces_of (after ++ rest) = pieces_of-feed all (after ++ rest) (has_feed-append line front h k) in
-    let w : is_within used (record { text = all; ended = true }) ≡ true = within-true used text (length all) size p in
+    let w : is_within used (record { text = all; ended = true }) ≡ true = within-same used text (length all) false size p in
     let behind : used + (length all + 1) ≡ used + text + 1 = omega arith in
     rw (shape, pieces, w, behind) refl
 

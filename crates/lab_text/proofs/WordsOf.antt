@@ -1,7 +1,7 @@
 -- The first word of a line, and the value of digits step by step.
 use Rattle.std.proofs.Common.{◌≡◌, ℕ, ◌+◌, ◌-◌, ◌*◌, ◌^◌, ◌<◌, ◌≤◌, List, [], ◌∷◌, length, take, drop, get_or, true, false, ◌&&◌, leb, cond, None, IfSome, refl, sym, ◌∙◌, ap, arith, suc, zero}
 use Rattle.std.proofs.lemmas.List.{at_drop_more, at_drop_all}
-use Rattle.lab_text.specs.Words.{words_of, is_blank, ends_word, before_first, digits_value, number_of}
+use Rattle.lab_text.specs.Words.{words_of, is_blank, ends_word, before_first, digits_value, numeral_value}
 
 -- blanks at the front make no word
 pub words_of-blank : (x : ℕ) (xs : List ℕ) → is_blank x ≡ true → words_of (x ∷ xs) ≡ words_of xs
@@ -35,7 +35,7 @@ digits_value-grows bound value (x ∷ xs) h = elim (leb 48 x && leb x 57) as (λ
 grows_next : (bound value x : ℕ) (xs : List ℕ) → bound ≤ value * 10 + (x - 48) → IfSome (digits_value value (x ∷ xs)) (λ v. bound ≤ v)
 grows_next bound value x xs h = elim (leb 48 x && leb x 57) as (λ b. IfSome (cond b (digits_value (value * 10 + (x - 48)) xs) None) (λ v. bound ≤ v)) [ true ↦ digits_value-grows bound (value * 10 + (x - 48)) xs h | false ↦ tt ]
 
-pub too_large : (word : List ℕ) (i value : ℕ) → i < length word → digits_value value (drop i word) ≡ digits_value 0 word → 2 ^ 64 ≤ value * 10 + (get_or word i 0 - 48) → IfSome (number_of word) (λ v. 2 ^ 64 ≤ v)
+pub too_large : (word : List ℕ) (i value : ℕ) → i < length word → digits_value value (drop i word) ≡ digits_value 0 word → 2 ^ 64 ≤ value * 10 + (get_or word i 0 - 48) → IfSome (numeral_value word) (λ v. 2 ^ 64 ≤ v)
 too_large word i value l e h =
     let large : IfSome (digits_value value (get_or word i 0 ∷ drop (i + 1) word)) (λ v. 2 ^ 64 ≤ v) = grows_next (2 ^ 64) value (get_or word i 0) (drop (i + 1) word) h in
     let step : digits_value value (get_or word i 0 ∷ drop (i + 1) word) ≡ digits_value 0 word = sym (at_drop_more (digits_value value) word i 0 l) ∙ e in

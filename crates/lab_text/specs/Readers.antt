@@ -1,5 +1,6 @@
 -- What a line reader has before it, and what it gives.
-use Rattle.std.specs.Prelude.{◌≡◌, ℕ, ◌-◌, List, [], ◌∷◌, ◌++◌, take, drop, Option, Some, IfSome, IsSomeAnd, option_map}
+use Rattle.std.specs.Prelude.{◌≡◌, ℕ, ◌-◌, ◌≤◌, List, [], ◌∷◌, ◌++◌, take, drop}
+use Rattle.std.specs.Prelude.{Option, Some, IfSome, IsSome, IsSomeAnd, option_map}
 use Rattle.mix_base.specs.declared.reading.Source.{Ghosts}
 use Rattle.lab_text.specs.Lines.{ScriptLine, Text, lines_from}
 use Rattle.lab_text.specs.declared.lines.LineReader.{LineReader}
@@ -9,8 +10,8 @@ abbrev pub source_of : {I : Type 0} {G : Ghosts I} → LineReader I G → I
 source_of reader = reader.source
 
 -- how many lines it has given
-abbrev pub number_of : {I : Type 0} {G : Ghosts I} → LineReader I G → ℕ
-number_of reader = reader.number
+abbrev pub lines_given : {I : Type 0} {G : Ghosts I} → LineReader I G → ℕ
+lines_given reader = reader.number
 
 -- the bytes that it has read from its source and not yet given as lines
 abbrev pub unread : {I : Type 0} {G : Ghosts I} → LineReader I G → List ℕ
@@ -31,3 +32,10 @@ Stays before after = IfSome before (λ lines. after ≡ Some lines)
 -- the source is at its end, where it told before what was left
 abbrev pub ReachesEnd : Option (List ℕ) → Option (List ℕ) → Type 0
 ReachesEnd before after = IfSome before (λ _. after ≡ Some [])
+
+-- what a call of the reader owes of its source: it tells what is left where it told before, its count of faults
+-- doesn't fall, and it is the same reference
+pub record SourceGoesOn {I : Type 0} {G : Ghosts I} (old new : LineReader I G) : Type 0 where
+  pub tells : IfSome (G.left (source_of old)) (λ _. IsSome (G.left (source_of new)))
+  pub faults : G.faults (source_of old) ≤ G.faults (source_of new)
+  pub same_reference : G.reference (source_of new) ≡ G.reference (source_of old)

@@ -1,10 +1,10 @@
--- How a run ends: the code and the text of each status.
+-- How a call ends: the code and the text of each status, and the statuses of faults.
 use Rattle.std.specs.Prelude.{ℕ, List, [], ◌∷◌, ◌++◌, codes}
 use Rattle.std.specs.Fmt.{decimal}
 use Rattle.mix_base.specs.declared.writing.PutFault.{PutFault}
 use Rattle.mix_base.specs.declared.writing.PutFault.TheVariants as puts
-use Rattle.lab_text.specs.declared.lines.LineFault.{LineFault}
-use Rattle.lab_text.specs.declared.lines.LineFault.TheVariants as faults
+use Rattle.lab_text.specs.declared.faults.LineFault.{LineFault}
+use Rattle.lab_text.specs.declared.faults.LineFault.TheVariants as faults
 use Rattle.lab_text.specs.declared.statuses.Status.{Status}
 use Rattle.lab_text.specs.declared.statuses.Status.TheVariants.{Done, Words, Line, ReadFault, WriteFault, Memory, Later}
 
@@ -19,22 +19,22 @@ code_of Memory = 6
 code_of (Later line) = 11
 
 -- the text on standard error; 10 is a line feed
-abbrev pub text_of : Status → List ℕ
-text_of Done = []
-text_of Words = codes "mix: words" ++ 10 ∷ []
-text_of (Line line) = codes "mix: line " ++ decimal line ++ 10 ∷ []
-text_of ReadFault = codes "mix: read fault" ++ 10 ∷ []
-text_of WriteFault = codes "mix: write fault" ++ 10 ∷ []
-text_of Memory = codes "mix: memory" ++ 10 ∷ []
-text_of (Later line) = codes "mix: later line " ++ decimal line ++ 10 ∷ []
+abbrev pub status_text : Status → List ℕ
+status_text Done = []
+status_text Words = codes "mix: words" ++ 10 ∷ []
+status_text (Line line) = codes "mix: line " ++ decimal line ++ 10 ∷ []
+status_text ReadFault = codes "mix: read fault" ++ 10 ∷ []
+status_text WriteFault = codes "mix: write fault" ++ 10 ∷ []
+status_text Memory = codes "mix: memory" ++ 10 ∷ []
+status_text (Later line) = codes "mix: later line " ++ decimal line ++ 10 ∷ []
 
 -- the status of a fault in reading a line
-abbrev pub status_of : LineFault → Status
-status_of (faults.BadLine number) = Line number
-status_of faults.ReadFault = ReadFault
-status_of faults.Memory = Memory
+abbrev pub line_status : LineFault → Status
+line_status (faults.BadLine number) = Line number
+line_status faults.ReadFault = ReadFault
+line_status faults.Memory = Memory
 
 -- the status of a fault in writing a line of the report
-abbrev pub status_of_put : PutFault → Status
-status_of_put puts.WriteFault = WriteFault
-status_of_put puts.Memory = Memory
+abbrev pub put_status : PutFault → Status
+put_status puts.WriteFault = WriteFault
+put_status puts.Memory = Memory

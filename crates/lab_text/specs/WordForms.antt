@@ -1,9 +1,12 @@
--- Lines of words: how one is written, and what its words say: a number or bytes, each as the first word or as the only one.
-use Rattle.std.specs.Prelude.{ℕ, Bool, true, false, ◌==◌, if◌then◌else◌, List, [], ◌∷◌, ◌++◌, length, slice_index, Option, Some, None, codes}
+-- Lines of words: how one is written, and what its words say: a number or bytes, each as the first word or as the only
+-- one.
+use Rattle.std.specs.Prelude.{ℕ, Bool, true, false, ◌==◌, if◌then◌else◌}
+use Rattle.std.specs.Prelude.{List, [], ◌∷◌, ◌++◌, length, slice_index, is_none, Option, Some, None, codes}
 use Rattle.std.specs.Result.{result_ok}
 use Rattle.std.specs.Str.{bytes_eq}
+use Rattle.mix_base.specs.Options.{◌>>=◌}
 use Rattle.hex.specs.Hex.{decode_sized}
-use Rattle.lab_text.specs.Words.{◌>>=◌, number_in, bytes_of}
+use Rattle.lab_text.specs.Words.{number_in, bytes_of}
 
 -- words joined by single spaces, and ended by a line feed
 abbrev pub line_of : List (List ℕ) → List ℕ
@@ -15,10 +18,14 @@ line_of (word ∷ other ∷ others) = word ++ 32 ∷ line_of (other ∷ others)
 abbrev pub is_comment : List ℕ → Bool
 is_comment word = slice_index word 0 == 35
 
--- whether a line says nothing: it has no word, or its first begins with #
+-- the first word and those behind it, where the line says something: it has a word, and its first doesn't begin with #
+abbrev pub said_words : List (List ℕ) → Option (List ℕ × List (List ℕ))
+said_words [] = None
+said_words (first ∷ words) = if is_comment first then None else Some (first, words)
+
+-- whether a line says nothing
 abbrev pub says_nothing : List (List ℕ) → Bool
-says_nothing [] = true
-says_nothing (first ∷ words) = is_comment first
+says_nothing words = is_none (said_words words)
 
 -- the first word and those behind it
 abbrev pub first_of : List (List ℕ) → Option (List ℕ × List (List ℕ))

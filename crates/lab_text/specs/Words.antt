@@ -1,13 +1,10 @@
 -- The words of a line, and what a word says: a number in a range, or bytes.
-use Rattle.std.specs.Prelude.{ℕ, ◌+◌, ◌-◌, ◌*◌, nat_le, Bool, true, ◌==◌, ◌||◌, ◌&&◌, if◌then◌else◌, List, [], ◌∷◌, length, Option, Some, None, option_and_then, codes}
+use Rattle.std.specs.Prelude.{ℕ, ◌+◌, ◌-◌, ◌*◌, ◌^◌, nat_le, Bool, true, ◌==◌, ◌||◌, ◌&&◌, if◌then◌else◌}
+use Rattle.std.specs.Prelude.{List, [], ◌∷◌, length, Option, Some, None, codes}
 use Rattle.std.specs.Result.{result_ok}
 use Rattle.std.specs.Str.{bytes_eq}
+use Rattle.mix_base.specs.Options.{◌>>=◌}
 use Rattle.hex.specs.Hex.{decode_of, decode_sized}
-
--- the second step, where the first gave a value
-infixl 10 ◌>>=◌
-abbrev pub ◌>>=◌ : {A B : Type 0} → Option A → (A → Option B) → Option B
-o >>= f = option_and_then f o
 
 -- a space or a tab
 abbrev pub is_blank : ℕ → Bool
@@ -34,11 +31,13 @@ words_of (byte ∷ bytes) =
 -- the value of decimal digits, behind digits of this value
 abbrev pub digits_value : ℕ → List ℕ → Option ℕ
 digits_value value [] = Some value
-digits_value value (byte ∷ bytes) = if nat_le 48 byte && nat_le byte 57 then digits_value (value * 10 + (byte - 48)) bytes else None
+digits_value value (byte ∷ bytes) =
+    if nat_le 48 byte && nat_le byte 57 then digits_value (value * 10 + (byte - 48)) bytes else None
 
--- the value of a number: 1 to 20 decimal digits
-abbrev pub number_of : List ℕ → Option ℕ
-number_of word = if nat_le 1 (length word) && nat_le (length word) 20 then digits_value 0 word else None
+-- the value of a numeral: 1 to 20 decimal digits
+abbrev pub numeral_value : List ℕ → Option ℕ
+numeral_value word =
+    if nat_le 1 (length word) && nat_le (length word) 20 then digits_value 0 word else None
 
 -- a value that isn't outside its range
 abbrev pub within : ℕ → ℕ → ℕ → Option ℕ
@@ -46,12 +45,16 @@ within low high value = if nat_le low value && nat_le value high then Some value
 
 -- the value of a number in a range
 abbrev pub number_in : ℕ → ℕ → List ℕ → Option ℕ
-number_in low high word = number_of word >>= within low high
+number_in low high word = numeral_value word >>= within low high
+
+-- the greatest moment, in milliseconds, and the greatest number of an epoch
+abbrev pub last_moment : ℕ
+last_moment = 2 ^ 60 - 1
 
 -- the bytes that hexadecimal digits of either case spell two by two, or none at a dash
 abbrev pub bytes_of : List ℕ → Option (List ℕ)
 bytes_of word = if bytes_eq word (codes "-") then Some [] else result_ok (decode_of word)
 
 -- the 32 bytes that 64 hexadecimal digits of either case spell
-abbrev pub seed_of : List ℕ → Option (List ℕ)
-seed_of word = result_ok (decode_sized word 32)
+abbrev pub thirty_two : List ℕ → Option (List ℕ)
+thirty_two word = result_ok (decode_sized word 32)

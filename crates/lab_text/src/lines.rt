@@ -1,12 +1,16 @@
 // The lines of a script, read one by one from a source. Whatever pieces the source gives, the lines are those of
 // the whole script; what was read of a line stays in the reader when the source fails.
-ghost use Rattle.std.specs.Prelude.{◌≡◌, ℕ, ◌+◌, ◌-◌, ◌^◌, ◌<◌, ◌≤◌, List, [], ◌∷◌, ◌++◌, length, take, drop, vec_len, Option, Some, None, option_map, IfOk, IfErr, OnOk, OnErr, IfSome, IfNone, IsErrOf, true, false, if◌then◌else◌, is_some, IsSome, slice_index};
+ghost use Rattle.std.specs.Prelude.{◌≡◌, ℕ, ◌+◌, ◌-◌, ◌^◌, ◌<◌, ◌≤◌};
+ghost use Rattle.std.specs.Prelude.{List, [], ◌∷◌, ◌++◌, length, take, drop, slice_index, vec_len};
+ghost use Rattle.std.specs.Prelude.{Option, Some, None, option_map, is_some, IsSome, IfSome, IfNone};
+ghost use Rattle.std.specs.Prelude.{IfOk, IfErr, OnOk, OnErr, IsErrOf, true, false, if◌then◌else◌};
 ghost use Rattle.mix_base.specs.Faults.{Rose};
-ghost use Rattle.lab_text.specs.Lines.{ScriptLine, TooLong, lines_from, has_feed, without_return, passes_limits};
-ghost use Rattle.lab_text.specs.declared.lines.LineFault.TheVariants.{Memory as no_memory, ReadFault as read_fault};
+ghost use Rattle.lab_text.specs.Faults.{IsPastLimit};
+ghost use Rattle.lab_text.specs.Lines.{ScriptLine, lines_from, has_feed, without_return, passes_limits};
 
+use crate::LineFault;
 use memchr::memchr;
-use mix_base::{Failed, Source};
+use mix_base::Source;
 use std::alloc::{AllocError, Global};
 use std::mem;
 
@@ -24,32 +28,6 @@ const LINE_LIMIT: usize = 65_536;
 
 /// The most bytes of a script, with its line feeds.
 const SCRIPT_LIMIT: u64 = 1_073_741_824;
-
-/// Why there is no line, or no value of one.
-#[derive(Clone, Copy, Debug, PartialEq, Eq)]
-pub enum LineFault {
-    /// The line of this number, counted from 1, is outside the grammar.
-    BadLine { number: u64 },
-    /// The source failed.
-    ReadFault,
-    Memory,
-}
-
-impl From<AllocError> for LineFault {
-    ghost from_gives = { λ _ e. e ≡ no_memory };
-
-    fn from(_: AllocError) -> Self {
-        LineFault::Memory
-    }
-}
-
-impl From<Failed> for LineFault {
-    ghost from_gives = { λ _ e. e ≡ read_fault };
-
-    fn from(_: Failed) -> Self {
-        LineFault::ReadFault
-    }
-}
 
 /// Reads the lines of a script from a source, in blocks. A line has at most 65,536 bytes before its line feed, and
 /// the script at most 2^30 bytes. The last line may lack its line feed; a carriage return before one is dropped.
@@ -74,13 +52,14 @@ pub struct LineReader<I: Source> {
 }
 
 impl<I: Source> LineReader<I> {
-    ghost use Rattle.lab_text.specs.Readers.{source_of, number_of, unread, coming, GivesLine, Stays, ReachesEnd};
+    ghost use Rattle.lab_text.specs.Readers.{source_of, lines_given, unread, coming};
+    ghost use Rattle.lab_text.specs.Readers.{GivesLine, Stays, ReachesEnd, SourceGoesOn};
 
     /// Stands at the start of the script. Takes no memory.
     pub fn new(alloc: Global, source: I) -> LineReader<I>
         ensures source { source_of result ≡ source }
         ensures coming { coming result ≡ option_map (lines_from 0) (I.left source) }
-        ensures number { number_of result ≡ 0 }
+        ensures number { lines_given result ≡ 0 }
     {
         LineReader {
             source,
@@ -99,22 +78,19 @@ impl<I: Source> LineReader<I> {
         ensures line { IfOk result (λ next. IfSome next (λ line.
             GivesLine (coming self.old) (coming self.new) line.items)) }
         ensures counted { IfOk result (λ next.
-            number_of self.new ≡ number_of self.old + (if is_some next then 1 else 0)) }
-        ensures none { IfOk result (λ next. IfNone next (IfSome (coming self.old) (λ lines. lines ≡ []))) }
+            lines_given self.new ≡ lines_given self.old + (if is_some next then 1 else 0)) }
+        ensures none { IfOk result (λ next.
+            IfNone next (IfSome (coming self.old) (λ lines. lines ≡ []))) }
         ensures end { IfOk result (λ next. IfNone next
             (ReachesEnd (I.left (source_of self.old)) (I.left (source_of self.new)))) }
 
         // A line past a limit comes next.
-        ensures bad_line { (number : ℕ) → result ≡ Err (LineFault.BadLine number) →
-            (number ≡ number_of self.old + 1) × IfSome (coming self.old) (λ lines. lines ≡ TooLong ∷ []) }
+        ensures bad_line { IsPastLimit (lines_given self.old) (coming self.old) result }
         ensures read_fault { IsErrOf result LineFault.ReadFault →
             Rose (I.faults (source_of self.old)) (I.faults (source_of self.new)) }
         ensures err_coming { OnErr result (Stays (coming self.old) (coming self.new)) }
-        ensures err_number { OnErr result (number_of self.new ≡ number_of self.old) }
-
-        ensures tells { IfSome (I.left (source_of self.old)) (λ _. IsSome (I.left (source_of self.new))) }
-        ensures faults { I.faults (source_of self.old) ≤ I.faults (source_of self.new) }
-        ensures same_reference { I.reference (source_of self.new) ≡ I.reference (source_of self.old) }
+        ensures err_number { OnErr result (lines_given self.new ≡ lines_given self.old) }
+        ensures source { SourceGoesOn self.old self.new }
     {
         'blocks: loop {
             match memchr(LINE_FEED, &self.block[self.place..self.end]) {
@@ -148,7 +124,7 @@ impl<I: Source> LineReader<I> {
 
     /// The number of lines given so far, which is the number of the last of them, counted from 1.
     pub fn number(&self) -> u64
-        ensures { result ≡ number_of self.now }
+        ensures { result ≡ lines_given self.now }
     {
         self.number
     }
@@ -158,10 +134,10 @@ impl<I: Source> LineReader<I> {
         requires inside { self.old.place + length < self.old.end }
         requires feed { slice_index self.old.block.items (self.old.place + length) ≡ 10 }
         requires first { has_feed (take length (drop self.old.place self.old.block.items)) ≡ false }
-        ensures line { IfOk result (λ line. GivesLine (coming self.old) (coming self.new) line.items) }
+        ensures line { IfOk result (λ line.
+            GivesLine (coming self.old) (coming self.new) line.items) }
         ensures counted { OnOk result (self.new.number ≡ self.old.number + 1) }
-        ensures bad_line { (number : ℕ) → result ≡ Err (LineFault.BadLine number) →
-            (number ≡ self.old.number + 1) × IfSome (coming self.old) (λ lines. lines ≡ TooLong ∷ []) }
+        ensures bad_line { IsPastLimit self.old.number (coming self.old) result }
         ensures read_fault { IsErrOf result LineFault.ReadFault → ⊥ }
         ensures err_coming { OnErr result (coming self.new ≡ coming self.old) }
         ensures err_number { OnErr result (self.new.number ≡ self.old.number) }
@@ -186,11 +162,11 @@ impl<I: Source> LineReader<I> {
 
     // Moves what the block still has, which no line feed ends, to the front of the next line.
     fn keep_block(&mut self) -> Result<(), LineFault>
-        requires no_feed { has_feed (take (self.old.end - self.old.place) (drop self.old.place self.old.block.items)) ≡ false }
+        requires no_feed { let chunk = drop self.old.place self.old.block.items in
+            has_feed (take (self.old.end - self.old.place) chunk) ≡ false }
         ensures unread { OnOk result (self.new.line.items ≡ unread self.old) }
         ensures used_up { OnOk result (self.new.place ≡ self.new.end) }
-        ensures bad_line { (number : ℕ) → result ≡ Err (LineFault.BadLine number) →
-            (number ≡ self.old.number + 1) × IfSome (coming self.old) (λ lines. lines ≡ TooLong ∷ []) }
+        ensures bad_line { IsPastLimit self.old.number (coming self.old) result }
         ensures read_fault { IsErrOf result LineFault.ReadFault → ⊥ }
         ensures coming { coming self.new ≡ coming self.old }
         ensures number { self.new.number ≡ self.old.number }
@@ -221,9 +197,7 @@ impl<I: Source> LineReader<I> {
         ensures coming { Stays (coming self.old) (coming self.new) }
         ensures line { self.new.line ≡ self.old.line }
         ensures number { self.new.number ≡ self.old.number }
-        ensures tells { IfSome (I.left self.old.source) (λ _. IsSome (I.left self.new.source)) }
-        ensures faults { I.faults self.old.source ≤ I.faults self.new.source }
-        ensures same_reference { I.reference self.new.source ≡ I.reference self.old.source }
+        ensures source { SourceGoesOn self.old self.new }
     {
         if self.block.is_empty() {
             self.block = zeros(alloc, BLOCK)?;
@@ -240,7 +214,8 @@ impl<I: Source> LineReader<I> {
         ensures line { IfSome result (λ line. I.left self.old.source ≡ Some [] →
             GivesLine (coming self.old) (coming self.new) line.items) }
         ensures counted { self.new.number ≡ self.old.number + (if is_some result then 1 else 0) }
-        ensures none { IfNone result (I.left self.old.source ≡ Some [] → coming self.old ≡ Some []) }
+        ensures none { IfNone result
+            (I.left self.old.source ≡ Some [] → coming self.old ≡ Some []) }
         ensures source { self.new.source ≡ self.old.source }
     {
         if self.line.is_empty() {

@@ -1,12 +1,13 @@
 // How a run ends: the statuses, with their exit codes and the texts for standard error.
-ghost use Rattle.std.specs.Prelude.{◌≡◌, ◌≤◌, [], ◌∷◌, ◌++◌, Some, IfOk, OnOk, OnErr, IfSome, IsSomeAnd, IsErrOf};
+ghost use Rattle.std.specs.Prelude.{◌≡◌, ◌≤◌, [], ◌∷◌, ◌++◌, Some, IfSome, IsSomeAnd};
+ghost use Rattle.std.specs.Prelude.{IfOk, OnOk, OnErr, IsErrOf};
 ghost use Rattle.std.specs.Fmt.{decimal};
 ghost use Rattle.std.specs.String.{string_bytes};
 ghost use Rattle.mix_base.specs.Faults.{Rose};
 ghost use Rattle.mix_base.specs.Writing.{GivesFront};
-ghost use Rattle.lab_text.specs.Statuses.{code_of, text_of};
+ghost use Rattle.lab_text.specs.Statuses.{code_of, status_text};
 
-use crate::lines::LineFault;
+use crate::LineFault;
 use mix_base::{PutFault, Sink};
 use std::alloc::{AllocError, Global};
 
@@ -29,9 +30,9 @@ pub enum Status {
 }
 
 impl From<LineFault> for Status {
-    ghost use Rattle.lab_text.specs.Statuses.{status_of};
+    ghost use Rattle.lab_text.specs.Statuses.{line_status};
 
-    ghost from_gives = { λ fault status. status ≡ status_of fault };
+    ghost from_gives = { λ fault status. status ≡ line_status fault };
 
     fn from(fault: LineFault) -> Status {
         match fault {
@@ -43,9 +44,9 @@ impl From<LineFault> for Status {
 }
 
 impl From<PutFault> for Status {
-    ghost use Rattle.lab_text.specs.Statuses.{status_of_put};
+    ghost use Rattle.lab_text.specs.Statuses.{put_status};
 
-    ghost from_gives = { λ fault status. status ≡ status_of_put fault };
+    ghost from_gives = { λ fault status. status ≡ put_status fault };
 
     fn from(fault: PutFault) -> Status {
         match fault {
@@ -70,13 +71,14 @@ pub fn code(status: &Status) -> u8
     }
 }
 
-/// Gives the text of a status to the sink in one piece.
+/// Gives the text of a status to the sink. After an `Err` a front of it was given.
 pub fn write_status<O: Sink>(alloc: Global, sink: &mut O, status: &Status) -> Result<(), PutFault>
     ensures whole { OnOk result (IfSome (O.given sink.old) (λ before.
-        O.given sink.new ≡ Some (before ++ text_of status.now))) }
+        O.given sink.new ≡ Some (before ++ status_text status.now))) }
     ensures front { OnErr result (IfSome (O.given sink.old) (λ before.
-        IsSomeAnd (O.given sink.new) (λ after. GivesFront before after (text_of status.now)))) }
-    ensures fault { IsErrOf result PutFault.WriteFault → Rose (O.faults sink.old) (O.faults sink.new) }
+        IsSomeAnd (O.given sink.new) (λ after. GivesFront before after (status_text status.now)))) }
+    ensures fault { IsErrOf result PutFault.WriteFault →
+        Rose (O.faults sink.old) (O.faults sink.new) }
     ensures count { O.faults sink.old ≤ O.faults sink.new }
 {
     match status {
@@ -90,13 +92,15 @@ pub fn write_status<O: Sink>(alloc: Global, sink: &mut O, status: &Status) -> Re
     }
 }
 
-// Gives a text, the number of a line and a line feed in one piece.
+// Gives a text, the number of a line and a line feed.
 fn write_line<O: Sink>(alloc: Global, sink: &mut O, text: &str, line: u64) -> Result<(), PutFault>
     ensures whole { OnOk result (IfSome (O.given sink.old) (λ before.
         O.given sink.new ≡ Some (before ++ (text.now ++ decimal line ++ 10 ∷ [])))) }
     ensures front { OnErr result (IfSome (O.given sink.old) (λ before.
-        IsSomeAnd (O.given sink.new) (λ after. GivesFront before after (text.now ++ decimal line ++ 10 ∷ [])))) }
-    ensures fault { IsErrOf result PutFault.WriteFault → Rose (O.faults sink.old) (O.faults sink.new) }
+        IsSomeAnd (O.given sink.new) (λ after.
+        GivesFront before after (text.now ++ decimal line ++ 10 ∷ [])))) }
+    ensures fault { IsErrOf result PutFault.WriteFault →
+        Rose (O.faults sink.old) (O.faults sink.new) }
     ensures count { O.faults sink.old ≤ O.faults sink.new }
 {
     match line_text(alloc, text, line) {

@@ -1,22 +1,34 @@
 // What the words of a line say: a number or bytes, each as the first word or as the only one. Each reader answers
 // exactly what its definition has.
 ghost use Rattle.std.specs.Prelude.{◌≡◌, ◌≤◌, length, IfOk, IfSome, option_map, option_copied};
+ghost use Rattle.lab_text.specs.Faults.{ReadsAs, ReadsWords};
 ghost use Rattle.lab_text.specs.Words.{words_of};
-ghost use Rattle.lab_text.specs.WordForms.{alone, bytes_in, first_bytes, first_number, only_bytes, only_word, says_nothing, suite_of, surb_of};
+ghost use Rattle.lab_text.specs.WordForms.{alone, bytes_in, first_bytes, first_number, only_bytes};
+ghost use Rattle.lab_text.specs.WordForms.{only_word, said_words, says_nothing, suite_of, surb_of};
 
-use crate::{next_word, read_bytes, read_number};
+use crate::{WordFault, next_word, read_bytes, read_number};
 use hex::FromHex;
-use mix_base::{Bytes, Memory};
+use mix_base::Bytes;
 use std::alloc::Global;
 
-/// Whether a line says nothing: it has no word, or its first begins with `#`.
+/// The first word of a line and what stands behind it, where the line says something: it has a word, and its first
+/// doesn't begin with `#`.
+pub fn said_line(line: &[u8]) -> Option<(&[u8], &[u8])>
+    ensures { option_map (λ x. (x.0.now, words_of x.1.now)) result ≡ said_words (words_of line.now) }
+{
+    let (first, rest) = next_word(line)?;
+    if first[0] == b'#' {
+        None
+    } else {
+        Some((first, rest))
+    }
+}
+
+/// Whether a line says nothing.
 pub fn is_skipped(line: &[u8]) -> bool
     ensures { result ≡ says_nothing (words_of line.now) }
 {
-    match next_word(line) {
-        None => true,
-        Some((first, _)) => first[0] == b'#',
-    }
+    said_line(line).is_none()
 }
 
 /// The only word.
@@ -51,40 +63,36 @@ pub fn without_words<T: Drop>(value: T, rest: &[u8]) -> Option<T>
 }
 
 /// Bytes of a length as the first word, and what stands behind it.
-pub fn next_bytes(alloc: Global, rest: &[u8], size: usize) -> Result<Option<(Bytes, &[u8])>, Memory>
-    ensures exact { IfOk result (λ found. option_map (λ x. (x.0, words_of x.1.now)) found ≡ first_bytes size (words_of rest.now)) }
-    ensures length { IfOk result (λ found. IfSome found (λ x. length x.0 ≡ size)) }
+pub fn next_bytes(alloc: Global, rest: &[u8], size: usize) -> Result<(Bytes, &[u8]), WordFault>
+    ensures exact { ReadsAs (λ x. (x.0, words_of x.1.now))
+        (first_bytes size (words_of rest.now)) result }
+    ensures length { IfOk result (λ x. length x.0 ≡ size) }
 {
-    let Some((word, others)) = next_word(rest) else {
-        return Ok(None);
-    };
-    match sized_bytes(alloc, word, size) {
-        Ok(Some(bytes)) => Ok(Some((bytes, others))),
-        Ok(None) => Ok(None),
-        Err(Memory) => Err(Memory),
-    }
+    let (word, others) = next_word(rest).ok_or(WordFault::Outside)?;
+    let bytes = sized_bytes(alloc, word, size)?;
+    Ok((bytes, others))
 }
 
 /// The bytes that a word spells, where they have this length.
-pub fn sized_bytes(alloc: Global, word: &[u8], size: usize) -> Result<Option<Bytes>, Memory>
-    ensures exact { IfOk result (λ bytes. bytes ≡ bytes_in size word.now) }
-    ensures length { IfOk result (λ bytes. IfSome bytes (λ b. length b ≡ size)) }
+pub fn sized_bytes(alloc: Global, word: &[u8], size: usize) -> Result<Bytes, WordFault>
+    ensures exact { ReadsWords (bytes_in size word.now) result }
+    ensures length { IfOk result (λ bytes. length bytes ≡ size) }
 {
-    match read_bytes(alloc, word)? {
-        Some(bytes) if bytes.len() == size => Ok(Some(Bytes::of(bytes))),
-        _ => Ok(None),
+    let bytes = read_bytes(alloc, word)?;
+    if bytes.len() == size {
+        Ok(Bytes::of(bytes))
+    } else {
+        Err(WordFault::Outside)
     }
 }
 
 /// Bytes of a length as the only word.
-pub fn whole_bytes(alloc: Global, rest: &[u8], size: usize) -> Result<Option<Bytes>, Memory>
-    ensures exact { IfOk result (λ bytes. bytes ≡ only_bytes size (words_of rest.now)) }
-    ensures length { IfOk result (λ bytes. IfSome bytes (λ b. length b ≡ size)) }
+pub fn whole_bytes(alloc: Global, rest: &[u8], size: usize) -> Result<Bytes, WordFault>
+    ensures exact { ReadsWords (only_bytes size (words_of rest.now)) result }
+    ensures length { IfOk result (λ bytes. length bytes ≡ size) }
 {
-    match one_word(rest) {
-        Some(word) => sized_bytes(alloc, word, size),
-        None => Ok(None),
-    }
+    let word = one_word(rest).ok_or(WordFault::Outside)?;
+    sized_bytes(alloc, word, size)
 }
 
 /// The 16 bytes of a reply's id.

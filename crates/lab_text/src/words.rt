@@ -1,11 +1,16 @@
 // The words of a line and what they say: numbers, and bytes in hexadecimal digits. Each reader answers exactly what
 // its definition has, and None where that has nothing.
-ghost use Rattle.std.specs.Prelude.{◌≡◌, ◌+◌, ◌*◌, ◌^◌, ◌<◌, ◌≤◌, ◌∷◌, [], length, take, drop, slice_index, Some, true, false, IfOk, IfSome, IfNone, MatchOption, option_map};
-ghost use Rattle.lab_text.specs.Words.{words_of, is_blank, number_of, number_in, bytes_of, seed_of};
+ghost use Rattle.std.specs.Prelude.{◌≡◌, ◌+◌, ◌*◌, ◌^◌, ◌<◌, ◌≤◌, ◌∷◌, [], length, take, drop, slice_index};
+ghost use Rattle.std.specs.Prelude.{Some, true, false, IfOk, IfSome, IfNone, MatchOption, option_map};
+ghost use Rattle.lab_text.specs.Faults.{ReadsAs};
+ghost use Rattle.lab_text.specs.Words.{words_of, is_blank, numeral_value, number_in, bytes_of, thirty_two};
 
+use crate::WordFault;
 use hex::{FromHex, FromHexError};
-use mix_base::Memory;
 use std::alloc::Global;
+
+/// The greatest moment, in milliseconds, and the greatest number of an epoch: both are below 2^60.
+pub const LAST_MOMENT: u64 = (1 << 60) - 1;
 
 /// The most digits of a number.
 const DIGITS: usize = 20;
@@ -76,8 +81,8 @@ pub fn read_number(word: &[u8], low: u64, high: u64) -> Option<u64>
 
 // The value of 1 to 20 decimal digits, where it is below 2^64.
 fn read_digits(word: &[u8]) -> Option<u64>
-    ensures some { IfSome result (λ value. number_of word.now ≡ Some value) }
-    ensures none { IfNone result (IfSome (number_of word.now) (λ value. 2 ^ 64 ≤ value)) }
+    ensures some { IfSome result (λ value. numeral_value word.now ≡ Some value) }
+    ensures none { IfNone result (IfSome (numeral_value word.now) (λ value. 2 ^ 64 ≤ value)) }
 {
     if word.is_empty() || word.len() > DIGITS {
         return None;
@@ -103,23 +108,23 @@ fn append_digit(value: u64, digit: u8) -> Option<u64>
     value.checked_mul(10)?.checked_add(u64::from(digit))
 }
 
-/// The bytes that a word spells.
-pub fn read_bytes(alloc: Global, word: &[u8]) -> Result<Option<Vec<u8>>, Memory>
-    ensures { IfOk result (λ bytes. option_map (λ v. v.items) bytes ≡ bytes_of word.now) }
+/// The bytes that a word spells: hexadecimal digits of either case, or `-` for none.
+pub fn read_bytes(alloc: Global, word: &[u8]) -> Result<Vec<u8>, WordFault>
+    ensures { ReadsAs (λ bytes. bytes.items) (bytes_of word.now) result }
 {
     if word == b"-".as_slice() {
-        return Ok(Some(Vec::new(alloc)));
+        return Ok(Vec::new(alloc));
     }
     match hex::decode(alloc, word) {
-        Ok(bytes) => Ok(Some(bytes)),
-        Err(FromHexError::OutOfMemory) => Err(Memory),
-        Err(_) => Ok(None),
+        Ok(bytes) => Ok(bytes),
+        Err(FromHexError::OutOfMemory) => Err(WordFault::Memory),
+        Err(_) => Err(WordFault::Outside),
     }
 }
 
-/// The 32 bytes that a word spells.
-pub fn read_seed(word: &[u8]) -> Option<[u8; 32]>
-    ensures { result ≡ seed_of word.now }
+/// The 32 bytes that a word spells: a seed, a key's words, or an id.
+pub fn read_32(word: &[u8]) -> Option<[u8; 32]>
+    ensures { result ≡ thirty_two word.now }
 {
     <[u8; 32] as FromHex>::from_hex(word).ok()
 }

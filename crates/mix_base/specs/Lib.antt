@@ -1,6 +1,9 @@
 pub mod ByteLists
 pub mod Faults
+pub mod Options
 pub mod Reading
+pub mod Results
+pub mod Shards
 pub mod Suites
 pub mod WordStreams
 pub mod Writing

@@ -1,6 +1,7 @@
-// Bytes that a type owns and contracts see as a list, and the xor of two lists.
-ghost use Rattle.std.specs.Prelude.{◌≡◌, ℕ, List, length};
-ghost use Rattle.mix_base.specs.ByteLists.{xor};
+// Bytes that a type owns and contracts see as a list; the xor of two lists, zeros, and copies of a front.
+ghost use Rattle.std.specs.Prelude.{◌≡◌, ℕ, ◌≤◌, List, length, min, drop};
+ghost use Rattle.mix_base.specs.ByteLists.{all_zero, xor};
+ghost use Rattle.mix_base.specs.Reading.{TakesFront};
 
 use std::marker::Model;
 
@@ -50,4 +51,22 @@ pub fn xor_into(target: &mut [u8], other: &[u8])
     for i in 0..target.len() {
         target[i] ^= other[i];
     }
+}
+
+/// Whether each byte is zero.
+pub fn is_zero(bytes: &[u8]) -> bool
+    ensures { result ≡ all_zero bytes.now }
+{
+    bytes.iter().all(|byte| *byte == 0)
+}
+
+/// Copies as many bytes as the buffer has room for, or all, and answers how many they are. The rest of the buffer stays.
+pub fn copy_front(bytes: &[u8], buf: &mut [u8]) -> usize
+    ensures count { result ≡ min (length bytes.now) (length buf.old) }
+    ensures taken { TakesFront bytes.now (drop result bytes.now) buf.new result }
+    ensures rest { drop result buf.new ≡ drop result buf.old }
+{
+    let count = bytes.len().min(buf.len());
+    buf[..count].copy_from_slice(&bytes[..count]);
+    count
 }

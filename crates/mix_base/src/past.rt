@@ -1,5 +1,5 @@
 // What has happened to an object, as a list that only contracts read. It takes no bytes, and its calls do
-// nothing at run time. Each entry is there once it was pushed, and none is ever taken away.
+// nothing at run time. `push` adds an entry behind the others.
 ghost use Rattle.std.specs.Prelude.{◌≡◌, List, [], ◌∷◌, ◌++◌};
 ghost use Rattle.std.specs.Borrow.{ftrue};
 

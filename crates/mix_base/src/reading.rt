@@ -1,13 +1,13 @@
 // Where bytes come from: a source that may fail, and one in memory whose failing calls are listed.
 ghost use Rattle.std.specs.Prelude.{◌≡◌, ℕ, ◌+◌, ◌-◌, ◌^◌, ◌≤◌, ◌↔◌, List, Option, [], length, min, Some, None, IsErr, IsSomeAnd, IfOk, IfSome, OnErr, Contains, drop};
-ghost use Rattle.mix_base.specs.Faults.{Rose};
+ghost use Rattle.mix_base.specs.Faults.{Rose, one_more};
 ghost use Rattle.mix_base.specs.Reading.{TakesFront, SourceState};
 
-use crate::Failed;
+use crate::{Failed, copy_front};
 use std::marker::Model;
 
 /// A source of bytes.
-pub trait Source {
+pub trait Source: Drop {
     /// The bytes left, where the source tells them.
     ghost left: { Self → Option (List ℕ) };
 
@@ -85,9 +85,14 @@ impl Source for MemSource {
     fn read(&mut self, buf: &mut [u8]) -> Result<usize, Failed>
         ensures within { IfOk result (λ n. n ≤ length buf.old) }
         ensures taken { IfOk result (λ n. TakesFront self.old.left self.new.left buf.new n) }
-        ensures failed { OnErr result (Rose self.old.faults self.new.faults) }
+        ensures failed { OnErr result (self.new.faults ≡ one_more self.old.faults) }
         ensures failed_left { OnErr result (self.new.left ≡ self.old.left) }
         ensures count { self.old.faults ≤ self.new.faults }
+
+        // It gives as much as it has and the buffer holds, and leaves the rest of the buffer.
+        ensures most { IfOk result (λ n. n ≡ min (length buf.old) (length self.old.left)) }
+        ensures rest { IfOk result (λ n. drop n buf.new ≡ drop n buf.old) }
+        ensures failed_buffer { OnErr result (buf.new ≡ buf.old) }
 
         // Just the listed calls fail.
         ensures calls { self.new.calls ≡ min (self.old.calls + 1) (2 ^ 64 - 1) }
@@ -104,15 +109,4 @@ impl Source for MemSource {
         self.place += count;
         Ok(count)
     }
-}
-
-/// Copies as many bytes as the buffer has room for, or all.
-fn copy_front(bytes: &[u8], buf: &mut [u8]) -> usize
-    ensures within { result ≤ length buf.old }
-    ensures there { result ≤ length bytes.now }
-    ensures taken { TakesFront bytes.now (drop result bytes.now) buf.new result }
-{
-    let count = bytes.len().min(buf.len());
-    buf[..count].copy_from_slice(&bytes[..count]);
-    count
 }

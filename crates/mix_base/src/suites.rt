@@ -1,6 +1,6 @@
 // The parts of a cipher suite, each a trait whose meaning is a function on lists of bytes, and the suite
 // that joins them. Code above is generic in the suite, and its contracts are about the suite's meaning.
-ghost use Rattle.std.specs.Prelude.{◌≡◌, ℕ, ◌<◌, Bool, List, length, Some, None, IfOk, OnOk, IsOk, IsTrue, IsErrOf, if◌then◌else◌};
+ghost use Rattle.std.specs.Prelude.{◌≡◌, ℕ, ◌<◌, Bool, List, length, Some, None, IfOk, OnOk, OnErr, IsOk, IsTrue, IsErrOf, if◌then◌else◌};
 ghost use Rattle.mix_base.specs.ByteLists.{xor_stream};
 ghost use Rattle.mix_base.specs.Suites.{KemScheme, SuiteMeaning};
 ghost use Rattle.mix_base.specs.WordStreams.{GoesOn};
@@ -9,13 +9,7 @@ ghost use Rattle.mix_base.specs.declared.suites.HopKeys.{HopKeys};
 
 use crate::{Memory, Words};
 use std::alloc::Global;
-
-/// Which shard of how many: `shards` is 1 to 16, and `index` is below it.
-#[derive(Clone, Copy, Debug, PartialEq, Eq)]
-pub struct Shape {
-    pub shards: u8,
-    pub index: u8,
-}
+use thiserror::Error;
 
 /// The keys of one hop, from the hop's secret.
 #[derive(Clone, Copy)]
@@ -29,7 +23,7 @@ pub struct HopKeys {
 }
 
 /// A stream cipher.
-pub trait Stream {
+pub trait Stream: Drop + Send + Sync {
     /// The stream's byte at each place from 0 under a key.
     ghost byte: { List ℕ → ℕ → ℕ };
 
@@ -42,7 +36,7 @@ pub trait Stream {
 }
 
 /// A message authentication code.
-pub trait Mac {
+pub trait Mac: Drop + Send + Sync {
     /// The code of a message under a key.
     ghost code: { List ℕ → List ℕ → List ℕ };
 
@@ -55,7 +49,7 @@ pub trait Mac {
 }
 
 /// A derivation of a hop's keys.
-pub trait Kdf {
+pub trait Kdf: Drop + Send + Sync {
     /// The keys of a secret.
     ghost keys: { List ℕ → HopKeys };
 
@@ -65,7 +59,7 @@ pub trait Kdf {
 }
 
 /// A block cipher whose block is the whole message. A block is longer than 32 bytes.
-pub trait Wide {
+pub trait Wide: Drop + Send + Sync {
     ghost encrypted: { List ℕ → List ℕ → List ℕ };
 
     ghost decrypted: { List ℕ → List ℕ → List ℕ };
@@ -93,23 +87,28 @@ pub trait Wide {
 }
 
 /// Why `Kem::pair` gave no pair.
-#[derive(Clone, Copy, Debug, PartialEq, Eq)]
+#[derive(Clone, Copy, Debug, PartialEq, Eq, Error)]
 pub enum PairFault {
     /// The words make no pair.
+    #[error("the words make no key pair")]
     NoKey,
+    #[error("want of memory")]
     Memory,
 }
 
 /// Why `Kem::encap` gave no ciphertext.
-#[derive(Clone, Copy, Debug, PartialEq, Eq)]
+#[derive(Clone, Copy, Debug, PartialEq, Eq, Error)]
 pub enum EncapFault {
     /// The public key doesn't decode.
+    #[error("the public key doesn't decode")]
     KeyForm,
+    #[error("want of memory")]
     Memory,
 }
 
-/// A key encapsulation mechanism. After a refusal the output slices hold any bytes.
-pub trait Kem {
+/// A key encapsulation mechanism. After a refusal the output slices hold any bytes; want of memory leaves them as they
+/// were.
+pub trait Kem: Drop + Send + Sync {
     /// Its lengths and functions.
     ghost scheme: { KemScheme };
 
@@ -149,7 +148,9 @@ pub trait Kem {
         requires secret_length { length sk.old ≡ SK }
         ensures ok { OnOk result (scheme.pair (W.to_come words.old) ≡ Some (pk.new, sk.new)) }
         ensures no_key { IsErrOf result PairFault.NoKey → scheme.pair (W.to_come words.old) ≡ None }
-        ensures words { GoesOn (W.to_come words.old) (W.to_come words.new) };
+        ensures words { GoesOn (W.to_come words.old) (W.to_come words.new) }
+        ensures memory_public { IsErrOf result PairFault.Memory → pk.new ≡ pk.old }
+        ensures memory_secret { IsErrOf result PairFault.Memory → sk.new ≡ sk.old };
 
     /// A ciphertext for the public key, and the secret that it carries.
     fn encap(
@@ -163,14 +164,17 @@ pub trait Kem {
         requires coins { length coins.now ≡ COINS }
         requires ciphertext_length { length ct.old ≡ CT }
         ensures ok { OnOk result (scheme.encapsulate pk.now coins.now ≡ Some (ct.new, secret.new)) }
-        ensures key_form { IsErrOf result EncapFault.KeyForm → scheme.encapsulate pk.now coins.now ≡ None };
+        ensures key_form { IsErrOf result EncapFault.KeyForm → scheme.encapsulate pk.now coins.now ≡ None }
+        ensures memory_ciphertext { IsErrOf result EncapFault.Memory → ct.new ≡ ct.old }
+        ensures memory_secret { IsErrOf result EncapFault.Memory → secret.new ≡ secret.old };
 
     /// The secret of a ciphertext, and true; or false, where the ciphertext is refused.
     fn decap(alloc: Global, sk: &[u8], ct: &[u8], secret: &mut [u8; 32]) -> Result<bool, Memory>
         requires secret_length { length sk.now ≡ SK }
         requires ciphertext_length { length ct.now ≡ CT }
         ensures answer { IfOk result (λ found. scheme.decapsulate sk.now ct.now ≡ (if found then Some secret.new else None)) }
-        ensures lean { IsTrue LEAN → IsOk result };
+        ensures lean { IsTrue LEAN → IsOk result }
+        ensures memory { OnErr result (secret.new ≡ secret.old) };
 
     /// The constants are the scheme's lengths.
     ghost public_key_length: { scheme.public_key ≡ PK };
@@ -183,7 +187,7 @@ pub trait Kem {
 }
 
 /// A cipher suite: the five parts that a packet is made with.
-pub trait Suite {
+pub trait Suite: Drop + Send + Sync {
     type K: Kem;
 
     type M: Mac;

@@ -1,8 +1,11 @@
 // The objects in memory through the bounds that code above uses them by, and xor by worked values.
+ghost use Rattle.std.specs.Prelude.{◌≡◌, [], length};
+
 use crate::{
-    Bytes, Failed, ListWords, MemSink, MemSource, PutFault, Sink, Source, Words, xor_into,
+    Bytes, Failed, ListWords, MemSink, MemSource, PutFault, Shape, Sink, Source, Storied, Words,
+    copy_front, is_zero, next_words, skip_words, write_words, xor_into,
 };
-use std::alloc::Global;
+use std::alloc::{AllocError, Global};
 use std::test::Fail;
 
 fn read_some<I: Source>(source: &mut I, buf: &mut [u8]) -> Result<usize, Failed> {
@@ -78,5 +81,78 @@ fn bytes_are_the_vector_that_they_were_made_of(rt: HostRuntime) -> Result<(), Fa
     let bytes = Bytes::of(target.to_vec(rt.alloc())?);
     assert_eq!(rt; bytes.as_slice(), [0xf0, 0xff, 0x00].as_slice());
     assert_eq!(rt; bytes.into_vec().as_slice(), [0xf0, 0xff, 0x00].as_slice());
+    Ok(())
+}
+
+#[test]
+fn words_are_drawn_passed_over_and_written_low_byte_first(rt: HostRuntime) -> Result<(), Fail> {
+    let list = vec![in rt.alloc(); 1, 2, 0x0403_0201, 0xff]?;
+    assert!(rt; list.len() > 0);
+    let mut words = ListWords::new(list);
+    skip_words(&mut words, 2);
+    let drawn = next_words(rt.alloc(), &mut words, 2).map_err(|_| AllocError)?;
+    assert_eq!(rt; drawn.as_slice(), [0x0403_0201, 0xff].as_slice());
+    let mut out = [9; 8];
+    write_words(&drawn, &mut out);
+    assert_eq!(rt; out, [1, 2, 3, 4, 0xff, 0, 0, 0]);
+    assert_eq!(rt; next_word(&mut words), 1);
+    Ok(())
+}
+
+#[test]
+fn fronts_are_copied_and_zeros_are_known(rt: HostRuntime) -> Result<(), Fail> {
+    let mut buf = [7; 4];
+    assert_eq!(rt; copy_front(b"ab", &mut buf), 2);
+    assert_eq!(rt; buf, [b'a', b'b', 7, 7]);
+    assert_eq!(rt; copy_front(&[0, 0, 0, 0, 0], &mut buf), 4);
+    assert!(rt; is_zero(&buf) && !is_zero(&[0, 1]));
+    Ok(())
+}
+
+#[test]
+fn a_shape_has_at_most_sixteen_shards_and_an_index_below_them(rt: HostRuntime) -> Result<(), Fail> {
+    let cases = [
+        (1, 0, true),
+        (16, 15, true),
+        (0, 0, false),
+        (4, 4, false),
+        (17, 3, false),
+    ];
+    for (shards, index, allowed) in cases {
+        assert_eq!(rt; Shape { shards, index }.is_allowed(), allowed);
+    }
+    Ok(())
+}
+
+// A value whose story is the list of its callers.
+#[derive(Drop)]
+struct Book {
+    callers: Vec<u32>,
+}
+
+impl Storied for Book {
+    type Entry = u32;
+
+    ghost origin = { λ _. [] };
+
+    ghost story = { λ book. book.callers.items };
+
+    ghost caller = { λ entry. entry };
+
+    fn entries(&self) -> u64 {
+        self.callers.len() as u64
+    }
+}
+
+fn entries_of<T: Storied>(value: &T) -> u64
+    ensures { result ≡ length (T.story value.now) }
+{
+    value.entries()
+}
+
+#[test]
+fn a_story_is_as_long_as_its_entries(rt: HostRuntime) -> Result<(), Fail> {
+    let callers = vec![in rt.alloc(); 2, 0, 2]?;
+    assert_eq!(rt; entries_of(&Book { callers }), 3);
     Ok(())
 }

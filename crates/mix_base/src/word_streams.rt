@@ -1,8 +1,13 @@
-// Words that a generator gives one after the other, and the generator that repeats a list.
-ghost use Rattle.std.specs.Prelude.{◌≡◌, ℕ, ◌+◌, ◌%◌, ◌<◌, vec_len, slice_index};
+// Words that a generator gives one after the other, the generator that repeats a list, and words drawn, passed over and
+// written as bytes.
+ghost use Rattle.std.specs.Prelude.{◌≡◌, ℕ, ◌+◌, ◌*◌, ◌%◌, ◌<◌, length, vec_len, slice_index, IfOk, OnOk, OnErr};
+ghost use Rattle.mix_base.specs.WordStreams.{SkipsWords, first_words, word_bytes};
+
+use crate::Memory;
+use std::alloc::Global;
 
 /// A generator of 32-bit words.
-pub trait Words {
+pub trait Words: Drop {
     /// The word at each place from 0, of those to come.
     ghost to_come: { Self → ℕ → ℕ };
 
@@ -37,5 +42,46 @@ impl Words for ListWords {
         let word = self.list[self.place];
         self.place = (self.place + 1) % self.list.len();
         word
+    }
+}
+
+/// Fills the list with the next words.
+pub fn draw<W: Words>(words: &mut W, drawn: &mut [u32])
+    ensures words { drawn.new ≡ first_words (W.to_come words.old) (length drawn.old) }
+    ensures rest { SkipsWords (length drawn.old) (W.to_come words.old) (W.to_come words.new) }
+{
+    'drawing: for i in 0..drawn.len() {
+        drawn[i] = words.next();
+    }
+}
+
+/// The next words, so many.
+pub fn next_words<W: Words>(alloc: Global, words: &mut W, count: usize) -> Result<Vec<u32>, Memory>
+    ensures words { IfOk result (λ drawn. drawn.items ≡ first_words (W.to_come words.old) count) }
+    ensures length { IfOk result (λ drawn. vec_len drawn ≡ count) }
+    ensures rest { OnOk result (SkipsWords count (W.to_come words.old) (W.to_come words.new)) }
+    ensures untouched { OnErr result (words.new ≡ words.old) }
+{
+    let mut drawn = vec![in alloc; 0; count]?;
+    draw(words, &mut drawn);
+    Ok(drawn)
+}
+
+/// Passes over this many words.
+pub fn skip_words<W: Words>(words: &mut W, count: usize)
+    ensures { SkipsWords count (W.to_come words.old) (W.to_come words.new) }
+{
+    'passing: for _place in 0..count {
+        words.next();
+    }
+}
+
+/// Writes each word as four bytes, the low byte first. Asks four bytes for each.
+pub fn write_words(words: &[u32], out: &mut [u8])
+    requires { length out.old ≡ 4 * length words.now }
+    ensures { out.new ≡ word_bytes words.now }
+{
+    'writing: for (i, word) in words.iter().enumerate() {
+        out[4 * i..4 * i + 4].copy_from_slice(&word.to_le_bytes());
     }
 }

@@ -1,18 +1,21 @@
 // Where bytes go: a sink that may fail, and one in memory whose failing calls are listed.
 ghost use Rattle.std.specs.Prelude.{◌≡◌, ℕ, ◌+◌, ◌-◌, ◌^◌, ◌≤◌, ◌↔◌, ◌++◌, List, Option, [], length, min, Some, None, IsSomeAnd, IfOk, IfSome, OnOk, OnErr, IsErrOf, Contains};
-ghost use Rattle.mix_base.specs.Faults.{Rose};
+ghost use Rattle.mix_base.specs.Faults.{Rose, one_more};
 ghost use Rattle.mix_base.specs.Writing.{GivesFront, SinkState};
 ghost use Rattle.mix_base.specs.declared.writing.PutFault.TheVariants.{Memory as want_of_memory};
 
 use crate::Memory;
 use std::alloc::{AllocError, Global};
 use std::marker::Model;
+use thiserror::Error;
 
 /// Why a sink took less than a piece.
-#[derive(Clone, Copy, Debug, PartialEq, Eq)]
+#[derive(Clone, Copy, Debug, PartialEq, Eq, Error)]
 pub enum PutFault {
     /// The sink failed.
+    #[error("the sink failed")]
     WriteFault,
+    #[error("want of memory")]
     Memory,
 }
 
@@ -33,7 +36,7 @@ impl From<Memory> for PutFault {
 }
 
 /// A sink of bytes.
-pub trait Sink {
+pub trait Sink: Drop {
     /// The bytes given, where the sink tells them.
     ghost given: { Self → Option (List ℕ) };
 
@@ -105,7 +108,7 @@ impl Sink for MemSink {
     fn put(&mut self, _alloc: Global, bytes: &[u8]) -> Result<(), PutFault>
         ensures whole { OnOk result (self.new.given ≡ self.old.given ++ bytes.now) }
         ensures front { OnErr result (self.new.given ≡ self.old.given) }
-        ensures fault { IsErrOf result PutFault.WriteFault → Rose self.old.faults self.new.faults }
+        ensures fault { IsErrOf result PutFault.WriteFault → self.new.faults ≡ one_more self.old.faults }
         ensures count { self.old.faults ≤ self.new.faults }
 
         // Just the listed calls fail, and no other raises the count.

@@ -1,10 +1,14 @@
 // The standard streams as source and sink: the trusted edge. They tell nothing of what they carry, and count each
 // of their failures.
-ghost use Rattle.std.specs.Prelude.{None};
+ghost use Rattle.std.specs.Prelude.{◌≤◌, length, None, IfOk};
 
 use mix_base::{Failed, PutFault, Sink, Source};
 use std::alloc::Global;
+use std::io;
 use std::io::{Read, Write};
+
+/// How often a read is tried that a signal interrupts.
+const TRIES: u32 = 1_000_000;
 
 /// Standard input, or any other reader.
 #[derive(Drop)]
@@ -25,7 +29,7 @@ impl<R: Read + Drop> Source for StdSource<R> {
     ghost faults = { λ source. source.faults };
 
     fn read(&mut self, buf: &mut [u8]) -> Result<usize, Failed> {
-        match self.reader.read(buf) {
+        match read_again(&mut self.reader, buf) {
             Ok(count) => Ok(count),
             Err(_) => {
                 self.faults = self.faults.saturating_add(1);
@@ -33,6 +37,19 @@ impl<R: Read + Drop> Source for StdSource<R> {
             }
         }
     }
+}
+
+// One read, tried again where a signal interrupts it.
+fn read_again<R: Read>(reader: &mut R, buf: &mut [u8]) -> io::Result<usize>
+    ensures { IfOk result (λ count. count ≤ length buf.old) }
+{
+    for _try in 0..TRIES {
+        match reader.read(buf) {
+            Err(error) if error.kind() == io::ErrorKind::Interrupted => {}
+            read => return read,
+        }
+    }
+    Err(io::Error::from(io::ErrorKind::Interrupted))
 }
 
 /// Standard output, standard error, or any other writer.
@@ -67,7 +84,6 @@ impl<W: Write + Drop> Sink for StdSink<W> {
 #[cfg(test)]
 mod tests {
     use super::*;
-    use std::io;
     use std::test::Fail;
 
     /// A stream whose every call fails.
@@ -90,6 +106,22 @@ mod tests {
         }
     }
 
+    /// A stream whose first reads are interrupted, so many.
+    #[derive(Drop)]
+    struct Signalled {
+        signals: u32,
+    }
+
+    impl Read for Signalled {
+        fn read(&mut self, buf: &mut [u8]) -> io::Result<usize> {
+            if self.signals == 0 {
+                return Ok(buf.len());
+            }
+            self.signals -= 1;
+            Err(io::Error::from(io::ErrorKind::Interrupted))
+        }
+    }
+
     #[test]
     fn a_source_gives_what_its_reader_has(rt: HostRuntime) -> Result<(), Fail> {
         let bytes: &[u8] = b"abc";
@@ -100,6 +132,9 @@ mod tests {
         assert_eq!(rt; source.read(&mut buf), Ok(1));
         assert_eq!(rt; source.read(&mut buf), Ok(0));
         assert_eq!(rt; StdSource::new(Broken).read(&mut buf), Err(Failed));
+        let mut signalled = StdSource::new(Signalled { signals: 3 });
+        assert_eq!(rt; signalled.read(&mut buf), Ok(2));
+        assert_eq!(rt; signalled.faults, 0);
         Ok(())
     }
 

@@ -1,18 +1,19 @@
 -- The keys of a block as bytes, and an answer that is never refused.
-use Rattle.std.proofs.Common.{◌≡◌, ℕ, ◌+◌, ◌-◌, ◌*◌, ◌/◌, ◌≤◌, List, [], ◌∷◌, ◌++◌, length, Result, Err, IsOk, IsTrue, refl, add-one, arith, eq-eqb}
+use Rattle.std.proofs.Common.{◌≡◌, ℕ, ◌+◌, ◌-◌, ◌*◌, ◌/◌, ◌≤◌, List, [], ◌∷◌, ◌++◌, length, Option, Some, None, Result, IsOk, IsTrue, refl, add-one, arith, eq-eqb}
 use Rattle.std.proofs.lemmas.Bool.Decides.{nat_tests}
 use Rattle.packet_form.specs.Geometry.{Sizes, block}
 use Rattle.prim_std.specs.Laboratory.{lab_meaning}
 use Rattle.reply_blocks.specs.Replies.{answered}
 use Rattle.reply_blocks.specs.declared.answering.Answered.{Answered}
-use Rattle.reply_blocks.specs.declared.fault.AnswerFault.{AnswerFault}
-use Rattle.reply_blocks.specs.declared.fault.AnswerFault.TheVariants as refusals
+use Rattle.reply_blocks.specs.declared.faults.AnswerFault.{AnswerFault}
+use Rattle.mix_tools.proofs.Refusals.{only_memory}
 use Rattle.mix_tools.specs.Drafts.{IsRequestInRange}
 use Rattle.mix_tools.specs.ReplyLines.{are_keys}
-use Rattle.mix_tools.specs.Replies.{AnswerWantsMemory, block_answered, hop_keys, key_at}
+use Rattle.mix_tools.specs.Replies.{block_answered, hop_keys, key_at}
 use Rattle.mix_tools.specs.declared.requests.AnswerRequest.{AnswerRequest}
 use Rattle.mix_tools.specs.declared.requests.Request.TheVariants.{Answer}
-use Rattle.reply_blocks.specs.Replies.{GivesAnswer}
+use Rattle.mix_base.specs.Results.{IsRefusedBy}
+use Rattle.reply_blocks.specs.Faults.{answer_cause}
 
 -- one hop's key more
 pub hop_keys_more : (bytes : List ℕ) (count : ℕ) → hop_keys bytes (count + 1) ≡ hop_keys bytes count ++ key_at bytes count ∷ []
@@ -27,12 +28,9 @@ answered-ok : (sizes : Sizes) (reply_block body : List ℕ) → length reply_blo
 unfolding answered
 answered-ok sizes reply_block body block_fits fits = rw (eq-eqb (length reply_block) (block sizes) block_fits, eq-eqb (length body) sizes.body fits) refl
 
-only_memory : (why : AnswerFault) (value : Result Answered AnswerFault) → IsOk value → GivesAnswer (Err why) value → AnswerWantsMemory why
-only_memory refusals.Memory value fine fails = tt
-only_memory refusals.BlockLength value fine fails = absurd (cc)
-only_memory refusals.BodyLength value fine fails = absurd (cc)
-
 -- a request in the grammar is never refused
-pub answer-never_refused : (request : AnswerRequest) (why : AnswerFault) → IsRequestInRange (Answer request) → GivesAnswer (Err why) (block_answered request) → AnswerWantsMemory why
+pub answer-never_refused : (request : AnswerRequest) (why : AnswerFault) → IsRequestInRange (Answer request)
+    → IsRefusedBy (answer_cause why) (block_answered request) → answer_cause why ≡ None
 answer-never_refused request why fine fails =
-    only_memory why (block_answered request) (answered-ok request.geometry request.block request.body fine.0 fine.1) fails
+    only_memory (answer_cause why) (block_answered request)
+    (answered-ok request.geometry request.block request.body fine.0 fine.1) fails

@@ -1,3 +1,4 @@
 pub mod AnsweredRequests
 pub mod BlockKeyBytes
 pub mod MadePackets
+pub mod Refusals

@@ -11,12 +11,15 @@ use Rattle.packet_form.specs.declared.commands.Exit.TheVariants.{Recipient, Repl
 use Rattle.prim_std.specs.Laboratory.{lab_meaning, lab_scheme}
 use Rattle.reply_blocks.specs.Blocks.{made_block}
 use Rattle.sphinx_make.specs.Drawing.{drawn_delay}
-use Rattle.sphinx_make.specs.Making.{Fails, ◌>>=◌, checked, checked_contents, checked_count, is_late, made_header, made_packet, sealed_hop, sealed_path}
-use Rattle.sphinx_make.specs.declared.fault.MakeFault.{MakeFault}
-use Rattle.sphinx_make.specs.declared.fault.MakeFault.TheVariants as faults
+use Rattle.mix_base.specs.Results.{IsRefusedBy, ◌>>=◌}
+use Rattle.sphinx_make.specs.Faults.{cause_of}
+use Rattle.sphinx_make.specs.Making.{checked, checked_contents, checked_count, is_late, made_header, made_packet, sealed_hop, sealed_path}
+use Rattle.sphinx_make.specs.declared.faults.MakeFault.{MakeFault}
+use Rattle.sphinx_make.specs.declared.faults.MakeFault.TheVariants as faults
 use Rattle.sphinx_make.specs.declared.path.HopSpec.{HopSpec}
 use Rattle.sphinx_make.specs.declared.path.SealedHop.{SealedHop}
-use Rattle.mix_tools.specs.Packets.{WantsMemory, block_made, coins_of, delay_from, delay_words, hop_from, own_key_of, packet_made, path_from, taken_for}
+use Rattle.mix_tools.specs.Packets.{block_made, coins_of, delay_from, delay_words, hop_from, own_key_of, packet_made, path_from, taken_for}
+use Rattle.mix_tools.proofs.Refusals.{only_memory}
 use Rattle.mix_tools.specs.Drafts.{IsDelayInRange, IsHopInRange, IsRequestInRange}
 use Rattle.mix_tools.specs.declared.requests.BlockRequest.{BlockRequest}
 use Rattle.mix_tools.specs.declared.requests.Delay.{Delay}
@@ -122,30 +125,22 @@ unfolding made_block
 made_block-ok sizes path recipient surb own coins some room fine =
     then_ok (made_header lab_meaning sizes path (Reply recipient surb) coins) _ (made_header-ok sizes path (Reply recipient surb) coins some room fine)
 
-only_memory : {Y : Type 0} (why : MakeFault) (value : Result Y MakeFault) → IsOk value → Fails why value → WantsMemory why
-only_memory faults.Memory value fine fails = tt
-only_memory faults.PathLength value fine fails = absurd (cc)
-only_memory faults.BodyLength value fine fails = absurd (cc)
-only_memory faults.BlockLength value fine fails = absurd (cc)
-only_memory (faults.Delay hop) value fine fails = absurd (cc)
-only_memory (faults.KeyForm hop) value fine fails = absurd (cc)
-
 -- ---- a request in the grammar is never refused
 
-pub packet-never_refused : (request : PacketRequest) (why : MakeFault) → IsRequestInRange (Packet request) → Fails why (packet_made request) → WantsMemory why
+pub packet-never_refused : (request : PacketRequest) (why : MakeFault) → IsRequestInRange (Packet request) → IsRefusedBy (cause_of why) (packet_made request) → cause_of why ≡ None
 packet-never_refused request why fine fails =
     let words = delay_words request.head.seed in
     let count = length-path_from words request.hops in
-    only_memory why (packet_made request)
+    only_memory (cause_of why) (packet_made request)
     (made_packet-ok request.head.geometry (path_from words request.hops) request.recipient request.body request.block (coins_of request.head.seed (length request.hops))
     (omega (arith, count, fine.0.some)) (omega (arith, count, fine.0.path.count)) (path_from-makeable words request.hops fine.0.path.each) fine.1 fine.2)
     fails
 
-pub block-never_refused : (request : BlockRequest) (why : MakeFault) → IsRequestInRange (Block request) → Fails why (block_made request) → WantsMemory why
+pub block-never_refused : (request : BlockRequest) (why : MakeFault) → IsRequestInRange (Block request) → IsRefusedBy (cause_of why) (block_made request) → cause_of why ≡ None
 block-never_refused request why fine fails =
     let words = delay_words request.head.seed in
     let count = length-path_from words request.hops in
-    only_memory why (block_made request)
+    only_memory (cause_of why) (block_made request)
     (made_block-ok request.head.geometry (path_from words request.hops) request.recipient request.surb
     (own_key_of request.head.seed (length request.hops)) (coins_of request.head.seed (length request.hops))
     (omega (arith, count, fine.some)) (omega (arith, count, fine.path.count)) (path_from-makeable words request.hops fine.path.each))

@@ -1,12 +1,31 @@
--- What a call of a command owes: a text, by how the call ends.
-use Rattle.std.specs.Prelude.{◌≡◌, ℕ, ◌⊎◌, List, [], ◌++◌, take, Option, IfSome, IsSomeAnd}
+-- What a call of a command owes: a text, by how the call ends, and what it leaves as it was.
+use Rattle.std.specs.Prelude.{◌≡◌, ⊤, ℕ, ◌⊎◌, List, [], take, Option, IfSome}
+use Rattle.lab_text.specs.Given.{Gave}
+use Rattle.lab_text.specs.Outcomes.{Outcome, Says, Outside, NotBuilt, Keyless}
 use Rattle.lab_text.specs.Readers.{ReachesEnd}
 use Rattle.lab_text.specs.declared.statuses.Status.{Status}
 use Rattle.lab_text.specs.declared.statuses.Status.TheVariants.{Done, Words, Line, ReadFault, WriteFault, Memory, Later}
-use Rattle.mix_tools.specs.Outcomes.{Outcome, Says, Outside, NotBuilt}
 use Rattle.mix_tools.specs.Texts.{owed}
 use Rattle.mix_tools.specs.declared.commands.Command.{Command}
 use Rattle.mix_tools.specs.declared.commands.Command.TheVariants.{Keys, Make, Answer, Open}
+
+-- a text is owed
+abbrev pub IsSaid : Outcome (List ℕ) → Type 0
+IsSaid (Says text) = ⊤
+IsSaid (Outside line) = ⊥
+IsSaid (NotBuilt line) = ⊥
+IsSaid (Keyless epoch) = ⊥
+
+-- what a status says of the input, whatever the sink tells: after Done and WriteFault a text was owed, and Line and
+-- Later name the line at which the input stops
+abbrev pub Explains : Outcome (List ℕ) → Status → Type 0
+Explains outcome Done = IsSaid outcome
+Explains outcome (Line line) = outcome ≡ Outside line
+Explains outcome (Later line) = outcome ≡ NotBuilt line
+Explains outcome WriteFault = IsSaid outcome
+Explains outcome ReadFault = ⊤
+Explains outcome Memory = ⊤
+Explains outcome Words = ⊥
 
 -- the bytes are a front of the text that is owed
 abbrev pub IsFront : Outcome (List ℕ) → List ℕ → Type 0
@@ -26,11 +45,32 @@ Answers outcome Words bytes = ⊥
 -- the same, where the outcome is known and the sink tells what it was given
 abbrev pub AnswersOutcome : Option (Outcome (List ℕ)) → Option (List ℕ) → Option (List ℕ) → Status → Type 0
 AnswersOutcome outcome before after status =
-    IfSome outcome (λ told. IfSome before (λ first. IsSomeAnd after (λ last. (bytes : List ℕ) × (last ≡ first ++ bytes) × Answers told status bytes)))
+    IfSome outcome (λ told. Gave before after (λ bytes. Answers told status bytes))
 
 -- a command answered its input
 abbrev pub AnswersCommand : Command → Option (List ℕ) → Option (List ℕ) → Option (List ℕ) → Status → Type 0
 AnswersCommand command left before after status = AnswersOutcome (owed command left) before after status
+
+-- a status says of a command's input what is true, where the input is told
+abbrev pub ExplainsInput : Command → Option (List ℕ) → Status → Type 0
+ExplainsInput command left status = IfSome (owed command left) (λ outcome. Explains outcome status)
+
+-- after Line, Later and ReadFault the sink is as it was
+abbrev pub IsUnwritten : {O : Type 0} → Status → O → O → Type 0
+IsUnwritten (Line line) old new = new ≡ old
+IsUnwritten (Later line) old new = new ≡ old
+IsUnwritten ReadFault old new = new ≡ old
+IsUnwritten Done old new = ⊤
+IsUnwritten Words old new = ⊤
+IsUnwritten WriteFault old new = ⊤
+IsUnwritten Memory old new = ⊤
+
+-- `keys` leaves its source as it was
+abbrev pub IsReadBy : {I : Type 0} → Command → I → I → Type 0
+IsReadBy (Keys seed epoch) old new = new ≡ old
+IsReadBy Make old new = ⊤
+IsReadBy Answer old new = ⊤
+IsReadBy Open old new = ⊤
 
 -- how a command leaves its source: `keys` reads nothing of it, and the others read it to its end
 abbrev pub EndsInput : Command → Option (List ℕ) → Option (List ℕ) → Type 0

@@ -1,13 +1,13 @@
 -- What a draft becomes with one line more, and what is known of a draft.
-use Rattle.std.specs.Prelude.{◌≡◌, ℕ, ◌^◌, ◌<◌, ◌≤◌, if◌then◌else◌, List, [], ◌∷◌, length, All, IfSome, IsTrue}
+use Rattle.std.specs.Prelude.{◌≡◌, ℕ, ◌^◌, ◌<◌, ◌≤◌, ⊤, List, length, All, Option, Some, None, IfSome, IsTrue}
 use Rattle.packet_form.specs.Commands.{longest_delay}
 use Rattle.packet_form.specs.Geometry.{IsWithin, block, payload}
 use Rattle.prim_std.specs.Laboratory.{lab_scheme}
 use Rattle.sphinx_make.specs.declared.drawing.Draw.{Draw}
 use Rattle.mix_tools.specs.MakeLines.{make_line, path_line}
-use Rattle.mix_tools.specs.Outcomes.{Outcome, Says, Outside, at_line}
+use Rattle.lab_text.specs.Outcomes.{Outcome, Says, Outside, at_line}
+use Rattle.lab_text.specs.WordForms.{said_words}
 use Rattle.mix_tools.specs.ReplyLines.{answer_line, are_keys, block_line, body_line, keys_line, open_line, payload_line}
-use Rattle.lab_text.specs.WordForms.{is_comment}
 use Rattle.mix_tools.specs.declared.requests.Delay.{Delay}
 use Rattle.mix_tools.specs.declared.requests.Delay.TheVariants.{Unsaid, Given, Drawn}
 use Rattle.mix_tools.specs.declared.requests.Draft.{Draft}
@@ -16,30 +16,32 @@ use Rattle.mix_tools.specs.declared.requests.Head.{Head}
 use Rattle.mix_tools.specs.declared.requests.Hop.{Hop}
 use Rattle.mix_tools.specs.declared.requests.Request.{Request}
 use Rattle.mix_tools.specs.declared.requests.Request.TheVariants.{Packet, Block, Answer, Open}
-use Rattle.mix_tools.specs.declared.requests.SizesLine.{SizesLine}
 
--- a line that says something; none does behind a whole request
-abbrev pub said : ℕ → Draft → List ℕ → List (List ℕ) → Outcome Draft
-said number Making first words = make_line number first words
-said number (Path product head draw hops) first words = at_line number (path_line product head draw hops first words)
-said number Answering first words = answer_line number first words
-said number (AnswerSizes sizes) first words = at_line number (block_line sizes first words)
-said number (AnswerBlock sizes reply_block) first words = at_line number (body_line sizes reply_block first words)
-said number Opening first words = open_line number first words
-said number (OpenSizes sizes) first words = at_line number (keys_line sizes first words)
-said number (OpenKeys sizes keys) first words = at_line number (payload_line sizes keys first words)
-said number (Whole request) first words = Outside number
+-- the draft behind a line that says something; none may come behind a whole request
+abbrev pub said_behind : ℕ → Draft → List ℕ → List (List ℕ) → Outcome Draft
+said_behind number Making first words = make_line number first words
+said_behind number (Path product head draw hops) first words =
+    at_line number (path_line product head draw hops first words)
+said_behind number Answering first words = answer_line number first words
+said_behind number (AnswerSizes sizes) first words = at_line number (block_line sizes first words)
+said_behind number (AnswerBlock sizes reply_block) first words =
+    at_line number (body_line sizes reply_block first words)
+said_behind number Opening first words = open_line number first words
+said_behind number (OpenSizes sizes) first words = at_line number (keys_line sizes first words)
+said_behind number (OpenKeys sizes keys) first words =
+    at_line number (payload_line sizes keys first words)
+said_behind number (Whole request) first words = Outside number
 
--- the words of a line behind a draft; a line without a word and a comment say nothing
-abbrev pub taken : ℕ → Draft → List (List ℕ) → Outcome Draft
-taken number draft [] = Says draft
-taken number draft (first ∷ words) = if is_comment first then Says draft else said number draft first words
+-- the draft behind the first word of a line and those behind it, where it says something
+abbrev pub then_said : ℕ → Draft → Option (List ℕ × List (List ℕ)) → Outcome Draft
+then_said number draft None = Says draft
+then_said number draft (Some words) = said_behind number draft words.0 words.1
+
+-- the draft behind the words of a line
+abbrev pub draft_behind : ℕ → Draft → List (List ℕ) → Outcome Draft
+draft_behind number draft words = then_said number draft (said_words words)
 
 -- ---- what is known
-
-pub record AreSizesInRange (line : SizesLine) : Type 0 where
-  pub hops : IsWithin 1 5 line.hops
-  pub body : IsWithin 1 4096 line.body
 
 -- a unit of 1 to 60,000 milliseconds, and a cap of three hours at most
 pub record IsDrawInRange (draw : Draw) : Type 0 where
@@ -48,7 +50,7 @@ pub record IsDrawInRange (draw : Draw) : Type 0 where
   pub cap : draw.cap ≤ longest_delay
 
 abbrev pub IsDelayInRange : Delay → Type 0
-IsDelayInRange Unsaid = Unit {0}
+IsDelayInRange Unsaid = ⊤
 IsDelayInRange (Given milliseconds) = milliseconds ≤ longest_delay
 IsDelayInRange (Drawn draw) = IsDrawInRange draw
 
@@ -73,16 +75,18 @@ IsRequestInRange (Packet packet) =
     IsPathWhole packet.head packet.hops × (length packet.body ≡ packet.head.geometry.body)
     × IfSome packet.block (λ bytes. length bytes ≡ block packet.head.geometry)
 IsRequestInRange (Block reply_block) = IsPathWhole reply_block.head reply_block.hops
-IsRequestInRange (Answer answer) = (length answer.block ≡ block answer.geometry) × (length answer.body ≡ answer.geometry.body)
-IsRequestInRange (Open opening) = IsTrue (are_keys opening.geometry opening.keys) × (length opening.payload ≡ payload opening.geometry)
+IsRequestInRange (Answer answer) =
+    (length answer.block ≡ block answer.geometry) × (length answer.body ≡ answer.geometry.body)
+IsRequestInRange (Open opening) =
+    IsTrue (are_keys opening.geometry opening.keys) × (length opening.payload ≡ payload opening.geometry)
 
 abbrev pub IsDraftInRange : Draft → Type 0
-IsDraftInRange Making = Unit {0}
+IsDraftInRange Making = ⊤
 IsDraftInRange (Path product head draw hops) = IsPathInRange head hops × IfSome draw IsDrawInRange
-IsDraftInRange Answering = Unit {0}
-IsDraftInRange (AnswerSizes sizes) = Unit {0}
+IsDraftInRange Answering = ⊤
+IsDraftInRange (AnswerSizes sizes) = ⊤
 IsDraftInRange (AnswerBlock sizes reply_block) = length reply_block ≡ block sizes
-IsDraftInRange Opening = Unit {0}
-IsDraftInRange (OpenSizes sizes) = Unit {0}
+IsDraftInRange Opening = ⊤
+IsDraftInRange (OpenSizes sizes) = ⊤
 IsDraftInRange (OpenKeys sizes keys) = IsTrue (are_keys sizes keys)
 IsDraftInRange (Whole request) = IsRequestInRange request

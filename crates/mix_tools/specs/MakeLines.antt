@@ -5,10 +5,11 @@ use Rattle.packet_form.specs.Commands.{longest_delay}
 use Rattle.packet_form.specs.Geometry.{Sizes, block}
 use Rattle.prim_std.specs.Laboratory.{lab_scheme}
 use Rattle.sphinx_make.specs.declared.drawing.Draw.{Draw}
-use Rattle.lab_text.specs.Words.{◌>>=◌, number_in, seed_of}
-use Rattle.mix_tools.specs.FirstLines.{built, geometry_of, seed_line}
-use Rattle.mix_tools.specs.Outcomes.{Outcome, Outside}
+use Rattle.mix_base.specs.Options.{◌>>=◌}
+use Rattle.lab_text.specs.Outcomes.{Outcome, Outside}
 use Rattle.lab_text.specs.WordForms.{bytes_in, first_bytes, first_number, first_of, only_word, surb_of}
+use Rattle.lab_text.specs.Words.{number_in, thirty_two}
+use Rattle.mix_tools.specs.FirstLines.{built, lab_geometry, seed_line}
 use Rattle.mix_tools.specs.declared.requests.BlockRequest.{BlockRequest}
 use Rattle.mix_tools.specs.declared.requests.Delay.{Delay}
 use Rattle.mix_tools.specs.declared.requests.Delay.TheVariants.{Unsaid, Given, Drawn}
@@ -25,7 +26,7 @@ use Rattle.mix_tools.specs.declared.requests.SeedLine.{SeedLine}
 -- ---- packet SUITE HOPS BODY SEED, block SUITE HOPS BODY SEED
 
 abbrev pub head_of : SeedLine → Head
-head_of line = record { geometry = geometry_of line.sizes; seed = line.seed }
+head_of line = record { geometry = lab_geometry line.sizes; seed = line.seed }
 
 -- a path that has no hop yet
 abbrev pub begun : Product → ℕ → Option SeedLine → Outcome Draft
@@ -65,20 +66,28 @@ delay_in draw word =
     else if bytes_eq word (codes "draw") then option_map Drawn draw
     else option_map Given (number_in 0 longest_delay word)
 
+-- an id of 32 bytes and bytes of this length as the first two words, and the words behind them
+abbrev pub id_and_bytes : ℕ → List (List ℕ) → Option (List ℕ × List ℕ × List (List ℕ))
+id_and_bytes count words = do
+  first ← first_of words
+  id ← thirty_two first.0
+  bytes ← first_bytes count first.1
+  Some (id, bytes.0, bytes.1)
+
 -- what stands behind the first word; every key of the laboratory suite's length decodes
 abbrev pub hop_in : Option Draw → List (List ℕ) → Option Hop
 hop_in draw words = do
-  first ← first_of words
-  id ← seed_of first.0
-  key ← first_bytes lab_scheme.public_key first.1
-  word ← only_word key.1
+  keyed ← id_and_bytes lab_scheme.public_key words
+  word ← only_word keyed.2
   delay ← delay_in draw word
-  Some (record { id = id; key = key.0; delay = delay })
+  Some (record { id = keyed.0; key = keyed.1; delay = delay })
 
 -- as many as the geometry has hops
 abbrev pub hop_line : Product → Head → Option Draw → List Hop → List (List ℕ) → Option Draft
 hop_line product head draw hops words =
-    if nat_lt (length hops) head.geometry.hops then option_map (λ hop. Path product head draw (hops ++ hop ∷ [])) (hop_in draw words) else None
+    if nat_lt (length hops) head.geometry.hops
+    then option_map (λ hop. Path product head draw (hops ++ hop ∷ [])) (hop_in draw words)
+    else None
 
 -- ---- to RECIPIENT BODY [BLOCK], to RECIPIENT SURBID
 
@@ -91,24 +100,25 @@ block_in sizes (word ∷ other ∷ words) = None
 -- what stands behind the first word for a packet
 abbrev pub packet_in : Head → List Hop → List (List ℕ) → Option PacketRequest
 packet_in head hops words = do
-  first ← first_of words
-  recipient ← seed_of first.0
-  body ← first_bytes head.geometry.body first.1
-  reply_block ← block_in head.geometry body.1
-  Some (record { head = head; hops = hops; recipient = recipient; body = body.0; block = reply_block })
+  addressed ← id_and_bytes head.geometry.body words
+  reply_block ← block_in head.geometry addressed.2
+  Some (record { head = head; hops = hops; recipient = addressed.0; body = addressed.1; block = reply_block })
 
--- and for a block
+-- what stands behind the first word for a block
 abbrev pub reply_in : Head → List Hop → List (List ℕ) → Option BlockRequest
 reply_in head hops words = do
   first ← first_of words
-  recipient ← seed_of first.0
+  recipient ← thirty_two first.0
   word ← only_word first.1
   surb ← surb_of word
   Some (record { head = head; hops = hops; recipient = recipient; surb = surb })
 
+-- what stands behind the first word
 abbrev pub ended_path : Product → Head → List Hop → List (List ℕ) → Option Draft
-ended_path products.Packet head hops words = option_map (λ packet. Whole (requests.Packet packet)) (packet_in head hops words)
-ended_path products.Block head hops words = option_map (λ reply_block. Whole (requests.Block reply_block)) (reply_in head hops words)
+ended_path products.Packet head hops words =
+    option_map (λ packet. Whole (requests.Packet packet)) (packet_in head hops words)
+ended_path products.Block head hops words =
+    option_map (λ reply_block. Whole (requests.Block reply_block)) (reply_in head hops words)
 
 -- behind one hop at least
 abbrev pub to_line : Product → Head → List Hop → List (List ℕ) → Option Draft

@@ -1,11 +1,11 @@
 -- What a request to `make` makes: the coins and the delays of its seed, the path, and the packet or the block.
 use Rattle.std.specs.Prelude.{ℕ, ◌+◌, ◌*◌, List, [], ◌∷◌, length, Option, Some, None, Result, codes}
 use Rattle.prim_std.specs.Laboratory.{lab_meaning, lab_scheme}
-use Rattle.prim_std.specs.Primitives.{chacha_word, first_words, hmac, word_bytes}
+use Rattle.mix_base.specs.WordStreams.{first_words, word_bytes}
+use Rattle.prim_std.specs.Primitives.{chacha_word, hmac}
 use Rattle.sphinx_make.specs.Drawing.{drawn_delay, words_taken}
 use Rattle.sphinx_make.specs.Making.{made_packet}
-use Rattle.sphinx_make.specs.declared.fault.MakeFault.{MakeFault}
-use Rattle.sphinx_make.specs.declared.fault.MakeFault.TheVariants as faults
+use Rattle.sphinx_make.specs.declared.faults.MakeFault.{MakeFault}
 use Rattle.sphinx_make.specs.declared.path.HopSpec.{HopSpec}
 use Rattle.reply_blocks.specs.Blocks.{Keys, made_block}
 use Rattle.mix_tools.specs.declared.requests.BlockRequest.{BlockRequest}
@@ -40,7 +40,8 @@ hop_from words hop = record { id = hop.id; key = hop.key; delay = delay_from wor
 -- the path, its delays drawn hop after hop
 abbrev pub path_from : (ℕ → ℕ) → List Hop → List HopSpec
 path_from words [] = []
-path_from words (hop ∷ hops) = hop_from words hop ∷ path_from (λ place. words (taken_for words hop.delay + place)) hops
+path_from words (hop ∷ hops) =
+    hop_from words hop ∷ path_from (λ place. words (taken_for words hop.delay + place)) hops
 
 -- the packet; a request in the grammar makes one
 abbrev pub packet_made : PacketRequest → Result (List ℕ) MakeFault
@@ -50,19 +51,12 @@ packet_made request =
 
 -- a block's own key: the 32 words behind the coins, as bytes
 abbrev pub own_key_of : List ℕ → ℕ → List ℕ
-own_key_of seed hops = word_bytes (first_words (λ place. chacha_word seed (hops * lab_scheme.coins + place)) 32)
+own_key_of seed hops =
+    word_bytes (first_words (λ place. chacha_word seed (hops * lab_scheme.coins + place)) 32)
 
 -- the block and the keys that its maker keeps; a request in the grammar makes one
 abbrev pub block_made : BlockRequest → Result (List ℕ × Keys) MakeFault
 block_made request =
-    made_block lab_meaning request.head.geometry (path_from (delay_words request.head.seed) request.hops) request.recipient request.surb
-    (own_key_of request.head.seed (length request.hops)) (coins_of request.head.seed (length request.hops))
-
--- the one refusal of a maker that a request in the grammar leaves
-abbrev pub WantsMemory : MakeFault → Type 0
-WantsMemory faults.Memory = Unit {0}
-WantsMemory faults.PathLength = ⊥
-WantsMemory faults.BodyLength = ⊥
-WantsMemory faults.BlockLength = ⊥
-WantsMemory (faults.Delay hop) = ⊥
-WantsMemory (faults.KeyForm hop) = ⊥
+    made_block lab_meaning request.head.geometry (path_from (delay_words request.head.seed) request.hops)
+    request.recipient request.surb (own_key_of request.head.seed (length request.hops))
+    (coins_of request.head.seed (length request.hops))

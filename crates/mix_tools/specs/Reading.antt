@@ -2,11 +2,11 @@
 use Rattle.std.specs.Prelude.{ℕ, ◌+◌, List, [], ◌∷◌, Option, option_map}
 use Rattle.mix_base.specs.declared.reading.Source.{Ghosts}
 use Rattle.lab_text.specs.Lines.{ScriptLine, Text, TooLong, lines_from}
-use Rattle.lab_text.specs.Readers.{coming, number_of}
+use Rattle.lab_text.specs.Readers.{coming, lines_given}
 use Rattle.lab_text.specs.Words.{words_of}
 use Rattle.lab_text.specs.declared.lines.LineReader.{LineReader}
-use Rattle.mix_tools.specs.Outcomes.{Outcome, Says, Outside, ◌>>=◌}
-use Rattle.mix_tools.specs.Drafts.{taken}
+use Rattle.lab_text.specs.Outcomes.{Outcome, Says, Outside, ◌>>=◌}
+use Rattle.mix_tools.specs.Drafts.{draft_behind}
 use Rattle.mix_tools.specs.declared.requests.Draft.{Draft}
 use Rattle.mix_tools.specs.declared.requests.Draft.TheVariants.{Making, Path, Answering, AnswerSizes, AnswerBlock, Opening, OpenSizes, OpenKeys, Whole}
 use Rattle.mix_tools.specs.declared.requests.Request.{Request}
@@ -27,7 +27,8 @@ ended number (OpenKeys sizes keys) = Outside number
 abbrev pub request_from : List ScriptLine → ℕ → Draft → Outcome Request
 request_from [] number draft = ended number draft
 request_from (TooLong ∷ lines) number draft = Outside number
-request_from (Text line ∷ lines) number draft = taken number draft (words_of line) >>= request_from lines (number + 1)
+request_from (Text line ∷ lines) number draft =
+    draft_behind number draft (words_of line) >>= request_from lines (number + 1)
 
 -- what a whole text says
 abbrev pub request_of : Draft → List ℕ → Outcome Request
@@ -35,4 +36,5 @@ request_of draft text = request_from (lines_from 0 text) 1 draft
 
 -- what a reader's lines to come say behind a draft, where its source tells what is left
 abbrev pub request_to_come : {I : Type 0} {G : Ghosts I} → LineReader I G → Draft → Option (Outcome Request)
-request_to_come reader draft = option_map (λ lines. request_from lines (number_of reader + 1) draft) (coming reader)
+request_to_come reader draft =
+    option_map (λ lines. request_from lines (lines_given reader + 1) draft) (coming reader)

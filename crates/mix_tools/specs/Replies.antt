@@ -4,9 +4,8 @@ use Rattle.prim_std.specs.Laboratory.{lab_meaning}
 use Rattle.reply_blocks.specs.Blocks.{Keys}
 use Rattle.reply_blocks.specs.Replies.{answered, opened_reply}
 use Rattle.reply_blocks.specs.declared.answering.Answered.{Answered}
-use Rattle.reply_blocks.specs.declared.fault.AnswerFault.{AnswerFault}
-use Rattle.reply_blocks.specs.declared.fault.AnswerFault.TheVariants as refusals
-use Rattle.reply_blocks.specs.declared.fault.OpenFault.{OpenFault}
+use Rattle.reply_blocks.specs.declared.faults.AnswerFault.{AnswerFault}
+use Rattle.reply_blocks.specs.declared.faults.OpenFault.{OpenFault}
 use Rattle.mix_tools.specs.declared.requests.AnswerRequest.{AnswerRequest}
 use Rattle.mix_tools.specs.declared.requests.OpenRequest.{OpenRequest}
 
@@ -25,7 +24,8 @@ hop_keys bytes (suc count) = hop_keys bytes count ++ key_at bytes count ∷ []
 
 -- the keys that bytes spell: the last is the own one
 abbrev pub keys_of : List ℕ → Keys
-keys_of bytes = let hops = length bytes / 128 - 1 in record { hops = hop_keys bytes hops; own = key_at bytes hops }
+keys_of bytes =
+    let hops = length bytes / 128 - 1 in record { hops = hop_keys bytes hops; own = key_at bytes hops }
 
 -- a block answered; a request in the grammar is never refused
 abbrev pub block_answered : AnswerRequest → Result Answered AnswerFault
@@ -34,9 +34,3 @@ block_answered request = answered lab_meaning request.geometry request.block req
 -- a reply opened
 abbrev pub reply_opened : OpenRequest → Result (List ℕ) OpenFault
 reply_opened request = opened_reply lab_meaning request.geometry (keys_of request.keys) request.payload
-
--- the one refusal of an answer that a request in the grammar leaves
-abbrev pub AnswerWantsMemory : AnswerFault → Type 0
-AnswerWantsMemory refusals.Memory = Unit {0}
-AnswerWantsMemory refusals.BlockLength = ⊥
-AnswerWantsMemory refusals.BodyLength = ⊥

@@ -1,16 +1,16 @@
 -- The texts that the commands write, and what each command gives.
-use Rattle.std.specs.Prelude.{ℕ, List, [], ◌∷◌, ◌++◌, Option, Some, Result, Ok, Err, option_map, unwrap_or, codes}
+use Rattle.std.specs.Prelude.{ℕ, List, [], ◌∷◌, ◌++◌, Option, Some, None, Result, Ok, Err, option_map, codes}
 use Rattle.std.specs.Fmt.{decimal}
 use Rattle.hex.specs.Hex.{encode_lower}
 use Rattle.prim_std.specs.Laboratory.{lab_scheme}
-use Rattle.epoch_keys.specs.Keys.{epoch_pair}
+use Rattle.epoch_keys.specs.Keys.{epoch_public_key}
 use Rattle.reply_blocks.specs.Blocks.{Keys}
 use Rattle.reply_blocks.specs.declared.answering.Answered.{Answered}
-use Rattle.reply_blocks.specs.declared.fault.AnswerFault.{AnswerFault}
-use Rattle.reply_blocks.specs.declared.fault.OpenFault.{OpenFault}
-use Rattle.sphinx_make.specs.declared.fault.MakeFault.{MakeFault}
+use Rattle.reply_blocks.specs.declared.faults.AnswerFault.{AnswerFault}
+use Rattle.reply_blocks.specs.declared.faults.OpenFault.{OpenFault}
+use Rattle.sphinx_make.specs.declared.faults.MakeFault.{MakeFault}
 use Rattle.lab_text.specs.WordForms.{line_of}
-use Rattle.mix_tools.specs.Outcomes.{Outcome, Says, ◌>>=◌}
+use Rattle.lab_text.specs.Outcomes.{Outcome, Says, Keyless, ◌>>=◌}
 use Rattle.mix_tools.specs.Packets.{block_made, packet_made}
 use Rattle.mix_tools.specs.Reading.{request_of}
 use Rattle.mix_tools.specs.Replies.{block_answered, key_bytes, reply_opened}
@@ -37,9 +37,10 @@ sending_text first packet = bytes_text (codes "first") first ++ bytes_text (code
 abbrev pub keeping_text : List ℕ → Keys → List ℕ
 keeping_text block keys = bytes_text (codes "block") block ++ bytes_text (codes "keys") (key_bytes keys)
 
--- the public key of an epoch; every epoch has one with the laboratory mechanism
-abbrev pub public_key_of : List ℕ → ℕ → List ℕ
-public_key_of seed epoch = unwrap_or (option_map (λ pair. pair.0) (epoch_pair lab_scheme seed epoch)) []
+-- the text of an epoch's public key, where it has one
+abbrev pub key_owed : ℕ → Option (List ℕ) → Outcome (List ℕ)
+key_owed epoch None = Keyless epoch
+key_owed epoch (Some key) = Says (key_text epoch key)
 
 -- the id of the first hop
 abbrev pub first_id : List Hop → List ℕ
@@ -66,21 +67,21 @@ opened_text (Ok body) = bytes_text (codes "body") body
 opened_text (Err why) = line_of (codes "damaged" ∷ [])
 
 -- the text that a request is answered with
-abbrev pub text_of : Request → List ℕ
-text_of (Packet packet) = packet_text (first_id packet.hops) (packet_made packet)
-text_of (Block block) = block_text (block_made block)
-text_of (Answer answer) = answer_text (block_answered answer)
-text_of (Open opening) = opened_text (reply_opened opening)
+abbrev pub request_answer : Request → List ℕ
+request_answer (Packet packet) = packet_text (first_id packet.hops) (packet_made packet)
+request_answer (Block block) = block_text (block_made block)
+request_answer (Answer answer) = answer_text (block_answered answer)
+request_answer (Open opening) = opened_text (reply_opened opening)
 
 -- what a request's text is answered with, where it is in the grammar
 abbrev pub answer_to : Outcome Request → Outcome (List ℕ)
 answer_to outcome = do
   request ← outcome
-  Says (text_of request)
+  Says (request_answer request)
 
 -- what a command gives, where it is told the input that it reads; `keys` reads none
 abbrev pub owed : Command → Option (List ℕ) → Option (Outcome (List ℕ))
-owed (commands.Keys seed epoch) input = Some (Says (key_text epoch (public_key_of seed epoch)))
+owed (commands.Keys seed epoch) input = Some (key_owed epoch (epoch_public_key lab_scheme seed epoch))
 owed commands.Make input = option_map (λ text. answer_to (request_of Making text)) input
 owed commands.Answer input = option_map (λ text. answer_to (request_of Answering text)) input
 owed commands.Open input = option_map (λ text. answer_to (request_of Opening text)) input

@@ -3,10 +3,7 @@ ghost use Rattle.std.specs.Prelude.{◌≡◌, ◌<◌, ◌^◌, IfSome, map, st
 ghost use Rattle.mix_tools.specs.Commands.{command_of, keys_in};
 ghost use Rattle.lab_text.specs.WordForms.{alone};
 
-use lab_text::{read_number, read_seed};
-
-/// The greatest epoch of `keys`.
-const LAST_EPOCH: u64 = 1_152_921_504_606_846_975;
+use lab_text::{LAST_MOMENT, read_32, read_number};
 
 /// A command.
 #[derive(Clone, Copy, Debug, PartialEq, Eq)]
@@ -41,8 +38,8 @@ fn read_keys(words: &[String]) -> Option<Command>
 {
     match words {
         [suite, seed, epoch] if suite.as_str() == "lab" => {
-            let seed = read_seed(seed.as_bytes())?;
-            let epoch = read_number(epoch.as_bytes(), 0, LAST_EPOCH)?;
+            let seed = read_32(seed.as_bytes())?;
+            let epoch = read_number(epoch.as_bytes(), 0, LAST_MOMENT)?;
             Some(Command::Keys { seed, epoch })
         }
         _ => None,

@@ -1,8 +1,9 @@
 // What a draft becomes with one line more: a line is taken exactly where it is in the grammar behind those before it.
-ghost use Rattle.std.specs.Prelude.{◌≡◌, Option, IfErr, IfOk, IfSome, IsErrOf};
+ghost use Rattle.std.specs.Prelude.{Option, IfErr, IfOk, IsErrOf};
+ghost use Rattle.lab_text.specs.Faults.{ReadsWords};
+ghost use Rattle.lab_text.specs.Outcomes.{EndsReading, Reads, at_line};
 ghost use Rattle.lab_text.specs.Words.{words_of};
-ghost use Rattle.mix_tools.specs.Drafts.{IsDraftInRange, said, taken};
-ghost use Rattle.mix_tools.specs.Outcomes.{EndsReading, Reads, at_line};
+ghost use Rattle.mix_tools.specs.Drafts.{IsDraftInRange, draft_behind, said_behind};
 ghost use Rattle.mix_tools.specs.declared.requests.Draft.{Draft};
 
 use crate::make_lines::{read_make_line, read_path_line};
@@ -11,29 +12,25 @@ use crate::reply_lines::{
     read_payload_line,
 };
 use crate::requests::Draft;
-use lab_text::{Status, next_word};
-use mix_base::Memory;
+use lab_text::{Status, WordFault, said_line};
 use std::alloc::Global;
 
 /// The draft with the line of this number behind it.
 pub fn take_line(alloc: Global, draft: Draft, line: &[u8], number: u64) -> Result<Draft, Status>
     requires in_range { IsDraftInRange draft }
-    ensures exact { Reads (taken number draft (words_of line.now)) result }
+    ensures exact { Reads (draft_behind number draft (words_of line.now)) result }
     ensures in_range { IfOk result IsDraftInRange }
     ensures kind { IfErr result EndsReading }
     ensures no_read { IsErrOf result Status.ReadFault → ⊥ }
 {
-    let Some((first, rest)) = next_word(line) else {
-        return Ok(draft);
-    };
-    if first[0] == b'#' {
-        return Ok(draft);
+    match said_line(line) {
+        Some((first, rest)) => take_said(alloc, draft, first, rest, number),
+        None => Ok(draft),
     }
-    said_line(alloc, draft, first, rest, number)
 }
 
 // The draft with a line that says something.
-fn said_line(
+fn take_said(
     alloc: Global,
     draft: Draft,
     first: &[u8],
@@ -41,7 +38,7 @@ fn said_line(
     number: u64,
 ) -> Result<Draft, Status>
     requires in_range { IsDraftInRange draft }
-    ensures exact { Reads (said number draft first.now (words_of rest.now)) result }
+    ensures exact { Reads (said_behind number draft first.now (words_of rest.now)) result }
     ensures in_range { IfOk result IsDraftInRange }
     ensures kind { IfErr result EndsReading }
     ensures no_read { IsErrOf result Status.ReadFault → ⊥ }
@@ -77,16 +74,17 @@ fn said_line(
 }
 
 // What was read of the line of this number.
-fn at_number(read: Result<Option<Draft>, Memory>, number: u64) -> Result<Draft, Status>
-    requires { IfOk read (λ draft. IfSome draft IsDraftInRange) }
-    ensures exact { (said : Option Draft) → IfOk read (λ draft. draft ≡ said) → Reads (at_line number said) result }
+fn at_number(read: Result<Draft, WordFault>, number: u64) -> Result<Draft, Status>
+    requires { IfOk read IsDraftInRange }
+    ensures exact { (said : Option Draft) →
+        ReadsWords said read → Reads (at_line number said) result }
     ensures in_range { IfOk result IsDraftInRange }
     ensures kind { IfErr result EndsReading }
     ensures no_read { IsErrOf result Status.ReadFault → ⊥ }
 {
     match read {
-        Ok(Some(draft)) => Ok(draft),
-        Ok(None) => Err(Status::Line { line: number }),
-        Err(Memory) => Err(Status::Memory),
+        Ok(draft) => Ok(draft),
+        Err(WordFault::Outside) => Err(Status::Line { line: number }),
+        Err(WordFault::Memory) => Err(Status::Memory),
     }
 }

@@ -7,7 +7,7 @@ mod commands;
 mod drafts;
 mod first_lines;
 mod make_lines;
-mod making;
+mod packets;
 mod reading;
 mod replies;
 mod reply_lines;

@@ -1,12 +1,18 @@
 // The lines of a request to `make`: each is read exactly where it is in the grammar, behind what the lines before it
 // said.
-ghost use Rattle.std.specs.Prelude.{◌≡◌, ◌<◌, ◌≤◌, ◌^◌, length, IfOk, IfErr, IfSome, IsErrOf, All, option_and_then};
+ghost use Rattle.std.specs.Prelude.{◌≡◌, ◌<◌, ◌≤◌, ◌^◌, length, All, option_and_then};
+ghost use Rattle.std.specs.Prelude.{IfOk, IfErr, IfSome, IsErrOf};
 ghost use Rattle.packet_form.specs.Geometry as lengths;
-ghost use Rattle.lab_text.specs.Words.{words_of};
-ghost use Rattle.mix_tools.specs.Drafts.{IsDelayInRange, IsDraftInRange, IsDrawInRange, IsHopInRange, IsPathInRange, IsPathWhole, IsRequestInRange, AreSizesInRange};
-ghost use Rattle.mix_tools.specs.MakeLines.{begun, block_in, delay_in, draw_in, draw_line, ended_path, hop_in, hop_line, make_line, packet_in, path_line, reply_in, to_line};
-ghost use Rattle.mix_tools.specs.Outcomes.{EndsReading, Reads};
+ghost use Rattle.lab_text.specs.Faults.{ReadsAs, ReadsWords};
+ghost use Rattle.lab_text.specs.Outcomes.{EndsReading, Reads};
+ghost use Rattle.lab_text.specs.Sizes.{AreSizesInRange};
 ghost use Rattle.lab_text.specs.WordForms.{only_word};
+ghost use Rattle.lab_text.specs.Words.{words_of};
+ghost use Rattle.mix_tools.specs.Drafts.{IsDelayInRange, IsDraftInRange, IsDrawInRange, IsHopInRange};
+ghost use Rattle.mix_tools.specs.Drafts.{IsPathInRange, IsPathWhole, IsRequestInRange};
+ghost use Rattle.mix_tools.specs.MakeLines.{begun, block_in, delay_in, draw_in, draw_line, ended_path};
+ghost use Rattle.mix_tools.specs.MakeLines.{hop_in, hop_line, id_and_bytes, make_line, packet_in};
+ghost use Rattle.mix_tools.specs.MakeLines.{path_line, reply_in, to_line};
 ghost use Rattle.mix_tools.specs.declared.requests.Request.TheVariants.{Packet, Block};
 
 use crate::first_lines::{laboratory, read_seed_line};
@@ -14,10 +20,10 @@ use crate::requests::{
     BlockRequest, Delay, Draft, Head, Hop, Hops, PacketRequest, Product, Request, SeedLine,
 };
 use lab_text::{
-    Status, next_bytes, next_number, next_word, one_word, read_number, read_seed, read_surb,
-    sized_bytes,
+    Status, WordFault, next_bytes, next_number, next_word, one_word, read_32, read_number,
+    read_surb, sized_bytes,
 };
-use mix_base::{Bytes, Kem, Memory};
+use mix_base::{Bytes, Kem};
 use packet_form::{Geometry, LONGEST_DELAY};
 use prim_std::LabKem;
 use sphinx_make::Draw;
@@ -85,20 +91,21 @@ pub fn read_path_line(
     hops: Hops,
     first: &[u8],
     rest: &[u8],
-) -> Result<Option<Draft>, Memory>
+) -> Result<Draft, WordFault>
     requires path { IsPathInRange head hops }
     requires draw { IfSome draw IsDrawInRange }
-    ensures exact { IfOk result (λ draft. draft ≡ path_line product head draw hops first.now (words_of rest.now)) }
-    ensures in_range { IfOk result (λ draft. IfSome draft IsDraftInRange) }
+    ensures exact { ReadsWords
+        (path_line product head draw hops first.now (words_of rest.now)) result }
+    ensures in_range { IfOk result IsDraftInRange }
 {
     if first == b"draw".as_slice() {
-        Ok(read_draw_line(product, head, draw, hops, rest))
+        read_draw_line(product, head, draw, hops, rest).ok_or(WordFault::Outside)
     } else if first == b"hop".as_slice() {
         read_hop_line(alloc, product, head, draw, hops, rest)
     } else if first == b"to".as_slice() {
         read_to_line(alloc, product, head, hops, rest)
     } else {
-        Ok(None)
+        Err(WordFault::Outside)
     }
 }
 
@@ -149,48 +156,50 @@ fn read_hop_line(
     draw: Option<Draw>,
     hops: Hops,
     rest: &[u8],
-) -> Result<Option<Draft>, Memory>
+) -> Result<Draft, WordFault>
     requires path { IsPathInRange head hops }
     requires draw { IfSome draw IsDrawInRange }
-    ensures exact { IfOk result (λ draft. draft ≡ hop_line product head draw hops (words_of rest.now)) }
-    ensures in_range { IfOk result (λ draft. IfSome draft IsDraftInRange) }
+    ensures exact { ReadsWords (hop_line product head draw hops (words_of rest.now)) result }
+    ensures in_range { IfOk result IsDraftInRange }
 {
     if hops.len() >= head.geometry.hops() {
-        return Ok(None);
+        return Err(WordFault::Outside);
     }
-    match read_hop(alloc, draw, rest)? {
-        Some(hop) => {
-            let hops = hops.with(hop)?;
-            Ok(Some(Draft::Path {
-                product,
-                head,
-                draw,
-                hops,
-            }))
-        }
-        None => Ok(None),
-    }
+    let hop = read_hop(alloc, draw, rest)?;
+    let hops = hops.with(hop)?;
+    Ok(Draft::Path {
+        product,
+        head,
+        draw,
+        hops,
+    })
 }
 
 // What stands behind `hop`.
-fn read_hop(alloc: Global, draw: Option<Draw>, rest: &[u8]) -> Result<Option<Hop>, Memory>
+fn read_hop(alloc: Global, draw: Option<Draw>, rest: &[u8]) -> Result<Hop, WordFault>
     requires { IfSome draw IsDrawInRange }
-    ensures exact { IfOk result (λ hop. hop ≡ hop_in draw (words_of rest.now)) }
-    ensures in_range { IfOk result (λ hop. IfSome hop IsHopInRange) }
+    ensures exact { ReadsWords (hop_in draw (words_of rest.now)) result }
+    ensures in_range { IfOk result IsHopInRange }
 {
-    let Some((word, rest)) = next_word(rest) else {
-        return Ok(None);
-    };
-    let Some(id) = read_seed(word) else {
-        return Ok(None);
-    };
-    let Some((key, rest)) = next_bytes(alloc, rest, LabKem::PK)? else {
-        return Ok(None);
-    };
-    match read_delay(draw, rest) {
-        Some(delay) => Ok(Some(Hop { id, key, delay })),
-        None => Ok(None),
-    }
+    let (id, key, rest) = next_id_and_bytes(alloc, rest, LabKem::PK)?;
+    let delay = read_delay(draw, rest).ok_or(WordFault::Outside)?;
+    Ok(Hop { id, key, delay })
+}
+
+// An id of 32 bytes and bytes of this length as the first two words, and what stands behind them.
+fn next_id_and_bytes(
+    alloc: Global,
+    rest: &[u8],
+    size: usize,
+) -> Result<([u8; 32], Bytes, &[u8]), WordFault>
+    ensures exact { ReadsAs (λ x. (x.0, x.1, words_of x.2.now))
+        (id_and_bytes size (words_of rest.now)) result }
+    ensures length { IfOk result (λ x. length x.1 ≡ size) }
+{
+    let (word, rest) = next_word(rest).ok_or(WordFault::Outside)?;
+    let id = read_32(word).ok_or(WordFault::Outside)?;
+    let (bytes, rest) = next_bytes(alloc, rest, size)?;
+    Ok((id, bytes, rest))
 }
 
 // A delay as the only word.
@@ -219,13 +228,13 @@ fn read_to_line(
     head: Head,
     hops: Hops,
     rest: &[u8],
-) -> Result<Option<Draft>, Memory>
+) -> Result<Draft, WordFault>
     requires { IsPathInRange head hops }
-    ensures exact { IfOk result (λ draft. draft ≡ to_line product head hops (words_of rest.now)) }
-    ensures in_range { IfOk result (λ draft. IfSome draft IsDraftInRange) }
+    ensures exact { ReadsWords (to_line product head hops (words_of rest.now)) result }
+    ensures in_range { IfOk result IsDraftInRange }
 {
     if hops.is_empty() {
-        return Ok(None);
+        return Err(WordFault::Outside);
     }
     end_path(alloc, product, head, hops, rest)
 }
@@ -237,25 +246,20 @@ fn end_path(
     head: Head,
     hops: Hops,
     rest: &[u8],
-) -> Result<Option<Draft>, Memory>
+) -> Result<Draft, WordFault>
     requires { IsPathWhole head hops }
-    ensures exact { IfOk result (λ draft. draft ≡ ended_path product head hops (words_of rest.now)) }
-    ensures in_range { IfOk result (λ draft. IfSome draft IsDraftInRange) }
+    ensures exact { ReadsWords (ended_path product head hops (words_of rest.now)) result }
+    ensures in_range { IfOk result IsDraftInRange }
 {
-    match product {
-        Product::Packet => match read_packet(alloc, head, hops, rest)? {
-            Some(packet) => Ok(Some(Draft::Whole {
-                request: Request::Packet { packet },
-            })),
-            None => Ok(None),
+    let request = match product {
+        Product::Packet => Request::Packet {
+            packet: read_packet(alloc, head, hops, rest)?,
         },
-        Product::Block => match read_reply(head, hops, rest) {
-            Some(block) => Ok(Some(Draft::Whole {
-                request: Request::Block { block },
-            })),
-            None => Ok(None),
+        Product::Block => Request::Block {
+            block: read_reply(head, hops, rest).ok_or(WordFault::Outside)?,
         },
-    }
+    };
+    Ok(Draft::Whole { request })
 }
 
 // What stands behind `to` for a packet.
@@ -264,30 +268,20 @@ fn read_packet(
     head: Head,
     hops: Hops,
     rest: &[u8],
-) -> Result<Option<PacketRequest>, Memory>
+) -> Result<PacketRequest, WordFault>
     requires { IsPathWhole head hops }
-    ensures exact { IfOk result (λ packet. packet ≡ packet_in head hops (words_of rest.now)) }
-    ensures in_range { IfOk result (λ packet. IfSome packet (λ p. IsRequestInRange (Packet p))) }
+    ensures exact { ReadsWords (packet_in head hops (words_of rest.now)) result }
+    ensures in_range { IfOk result (λ packet. IsRequestInRange (Packet packet)) }
 {
-    let Some((word, rest)) = next_word(rest) else {
-        return Ok(None);
-    };
-    let Some(recipient) = read_seed(word) else {
-        return Ok(None);
-    };
-    let Some((body, rest)) = next_bytes(alloc, rest, head.geometry.body())? else {
-        return Ok(None);
-    };
-    match read_block(alloc, &head.geometry, rest)? {
-        Some(block) => Ok(Some(PacketRequest {
-            head,
-            hops,
-            recipient,
-            body,
-            block,
-        })),
-        None => Ok(None),
-    }
+    let (recipient, body, rest) = next_id_and_bytes(alloc, rest, head.geometry.body())?;
+    let block = read_block(alloc, &head.geometry, rest)?;
+    Ok(PacketRequest {
+        head,
+        hops,
+        recipient,
+        body,
+        block,
+    })
 }
 
 // What stands behind `to` for a block.
@@ -297,7 +291,7 @@ fn read_reply(head: Head, hops: Hops, rest: &[u8]) -> Option<BlockRequest>
     ensures in_range { IfSome result (λ b. IsRequestInRange (Block b)) }
 {
     let (word, rest) = next_word(rest)?;
-    let recipient = read_seed(word)?;
+    let recipient = read_32(word)?;
     let surb = read_surb(one_word(rest)?)?;
     Some(BlockRequest {
         head,
@@ -308,22 +302,17 @@ fn read_reply(head: Head, hops: Hops, rest: &[u8]) -> Option<BlockRequest>
 }
 
 // A reply block as the only word, or no word.
-fn read_block(
-    alloc: Global,
-    geometry: &Geometry,
-    rest: &[u8],
-) -> Result<Option<Option<Bytes>>, Memory>
-    ensures exact { IfOk result (λ block. block ≡ block_in geometry.now (words_of rest.now)) }
-    ensures in_range { IfOk result (λ block. IfSome block (λ b. IfSome b (λ bytes. length bytes ≡ lengths.block geometry.now))) }
+fn read_block(alloc: Global, geometry: &Geometry, rest: &[u8]) -> Result<Option<Bytes>, WordFault>
+    ensures exact { ReadsWords (block_in geometry.now (words_of rest.now)) result }
+    ensures in_range { IfOk result (λ block.
+        IfSome block (λ bytes. length bytes ≡ lengths.block geometry.now)) }
 {
     let Some((word, rest)) = next_word(rest) else {
-        return Ok(Some(None));
+        return Ok(None);
     };
     if next_word(rest).is_some() {
-        return Ok(None);
+        return Err(WordFault::Outside);
     }
-    match sized_bytes(alloc, word, geometry.block())? {
-        Some(block) => Ok(Some(Some(block))),
-        None => Ok(None),
-    }
+    let block = sized_bytes(alloc, word, geometry.block())?;
+    Ok(Some(block))
 }

@@ -1,8 +1,8 @@
 // A request is read line by line, to the end of the input or to the first line that stops.
 ghost use Rattle.std.specs.Prelude.{◌≡◌, ◌≤◌, IfOk, IfErr, OnOk, IfSome, IsSome, IsErrOf, Err};
 ghost use Rattle.mix_base.specs.Faults.{Rose};
-ghost use Rattle.lab_text.specs.Readers.{source_of, number_of, ReachesEnd};
-ghost use Rattle.mix_tools.specs.Outcomes.{EndsReading, Reads};
+ghost use Rattle.lab_text.specs.Outcomes.{EndsReading, Reads};
+ghost use Rattle.lab_text.specs.Readers.{source_of, ReachesEnd, SourceGoesOn};
 ghost use Rattle.mix_tools.specs.Reading.{ended, request_to_come};
 ghost use Rattle.mix_tools.specs.Drafts.{IsDraftInRange, IsRequestInRange};
 
@@ -21,10 +21,12 @@ pub fn read_request<I: Source>(
     requires in_range { IsDraftInRange draft }
     ensures exact { IfSome (request_to_come reader.old draft) (λ outcome. Reads outcome result) }
     ensures in_range { IfOk result IsRequestInRange }
-    ensures end { OnOk result (ReachesEnd (I.left (source_of reader.old)) (I.left (source_of reader.new))) }
+    ensures end { OnOk result (ReachesEnd
+        (I.left (source_of reader.old)) (I.left (source_of reader.new))) }
     ensures kind { IfErr result EndsReading }
-    ensures read_fault { IsErrOf result Status.ReadFault → Rose (I.faults (source_of reader.old)) (I.faults (source_of reader.new)) }
-    ensures same_reference { I.reference (source_of reader.new) ≡ I.reference (source_of reader.old) }
+    ensures read_fault { IsErrOf result Status.ReadFault →
+        Rose (I.faults (source_of reader.old)) (I.faults (source_of reader.new)) }
+    ensures source { SourceGoesOn reader.old reader.new }
 {
     let mut draft = draft;
     'lines: while let Some(line) = reader.next_line(alloc)? {

@@ -1,21 +1,21 @@
 // Blocks answered and replies opened, and the keys of a block as bytes.
-ghost use Rattle.std.specs.Prelude.{◌≡◌, ◌+◌, ◌-◌, ◌*◌, ◌/◌, ◌<◌, ◌≤◌, length, Ok, IfOk, IsTrue, option_map, Some, None};
+ghost use Rattle.std.specs.Prelude.{◌≡◌, ◌+◌, ◌-◌, ◌*◌, ◌/◌, ◌<◌, ◌≤◌, length};
+ghost use Rattle.std.specs.Prelude.{Ok, IfOk, IsTrue, option_map, Some, None};
 ghost use Rattle.packet_form.specs.Geometry as lengths;
 ghost use Rattle.reply_blocks.specs.Blocks.{keys_seen};
-ghost use Rattle.reply_blocks.specs.Replies.{GivesBody};
+ghost use Rattle.mix_base.specs.Results.{GivesAs};
+ghost use Rattle.reply_blocks.specs.Faults.{answer_cause, opening_cause};
 ghost use Rattle.mix_tools.specs.Drafts.{IsRequestInRange};
 ghost use Rattle.mix_tools.specs.ReplyLines.{are_keys};
-ghost use Rattle.mix_tools.specs.Replies.{AnswerWantsMemory, block_answered, hop_keys, key_at, key_bytes, keys_of, reply_opened};
+ghost use Rattle.mix_tools.specs.Replies.{block_answered, reply_opened};
+ghost use Rattle.mix_tools.specs.Replies.{hop_keys, key_at, key_bytes, keys_of};
 ghost use Rattle.mix_tools.specs.declared.requests.Request.TheVariants.{Answer, Open};
 
-use crate::requests::{AnswerRequest, OpenRequest};
+use crate::requests::{AnswerRequest, KEY, OpenRequest};
 use mix_base::Memory;
 use prim_std::LabSuite;
 use reply_blocks::{AnswerFault, Answered, BlockKeys, OpenFault, answer, open_reply};
 use std::alloc::{AllocError, Global};
-
-/// The length of a key.
-const KEY: usize = 128;
 
 /// The packet that answers a block, and the hop that it goes to first.
 pub fn answer_for(alloc: Global, request: &AnswerRequest) -> Result<Answered, Memory>
@@ -33,9 +33,9 @@ pub fn answer_for(alloc: Global, request: &AnswerRequest) -> Result<Answered, Me
     }
 }
 
-// The one refusal of an answer that a request in the grammar leaves.
+// Want of memory, which is all that stops an answer to a request in the grammar.
 fn only_memory(fault: AnswerFault) -> Memory
-    requires { AnswerWantsMemory fault }
+    requires { answer_cause fault ≡ None }
 {
     match fault {
         AnswerFault::Memory => Memory,
@@ -47,7 +47,7 @@ fn only_memory(fault: AnswerFault) -> Memory
 #[tactic(auto, using(crate::proofs::BlockKeyBytes::keys_fit))]
 pub fn body_for(alloc: Global, request: &OpenRequest) -> Result<Vec<u8>, OpenFault>
     requires { IsRequestInRange (Open request.now) }
-    ensures { GivesBody (λ body. body.items) result (reply_opened request.now) }
+    ensures { GivesAs opening_cause (λ body. body.items) result (reply_opened request.now) }
 {
     let keys = split_keys(alloc, request.keys.as_slice())?;
     open_reply::<LabSuite>(alloc, &request.geometry, &keys, request.payload.as_slice())

@@ -2,20 +2,34 @@
 // is in the grammar.
 ghost use Rattle.std.specs.Prelude.{◌≡◌, ◌≤◌, IfErr, IfOk, IfSome, IsErrOf, IsTrue, length};
 ghost use Rattle.packet_form.specs.Geometry as lengths;
+ghost use Rattle.lab_text.specs.Faults.{ReadsWords};
+ghost use Rattle.lab_text.specs.Outcomes.{EndsReading, Reads};
 ghost use Rattle.lab_text.specs.Words.{words_of};
-ghost use Rattle.mix_tools.specs.Drafts.{AreSizesInRange, IsDraftInRange};
-ghost use Rattle.mix_tools.specs.Outcomes.{EndsReading, Reads};
-ghost use Rattle.mix_tools.specs.ReplyLines.{answer_line, are_keys, block_line, body_line, keys_in, keys_line, open_line, payload_line};
+ghost use Rattle.mix_tools.specs.Drafts.{IsDraftInRange};
+ghost use Rattle.mix_tools.specs.ReplyLines.{answer_line, are_keys, block_line, body_line, keys_in};
+ghost use Rattle.mix_tools.specs.ReplyLines.{keys_line, open_line, payload_line, sizes_under};
 
 use crate::first_lines::{laboratory, read_sizes_line};
-use crate::requests::{AnswerRequest, Draft, OpenRequest, Request};
-use lab_text::{Status, one_word, read_bytes, whole_bytes};
-use mix_base::{Bytes, Memory};
+use crate::requests::{AnswerRequest, Draft, KEY, OpenRequest, Request};
+use lab_text::{Status, WordFault, one_word, read_bytes, whole_bytes};
+use mix_base::Bytes;
 use packet_form::Geometry;
 use std::alloc::Global;
 
-/// The length of a key.
-const KEY: usize = 128;
+// A first line of sizes under a name, at this number: the geometry that it says.
+fn read_sizes_under(name: &[u8], first: &[u8], rest: &[u8], number: u64) -> Result<Geometry, Status>
+    ensures exact { Reads (sizes_under name.now number first.now (words_of rest.now)) result }
+    ensures kind { IfErr result EndsReading }
+    ensures no_read { IsErrOf result Status.ReadFault → ⊥ }
+{
+    if first != name {
+        return Err(Status::Line { line: number });
+    }
+    match read_sizes_line(rest) {
+        Some(sizes) => laboratory(&sizes, number),
+        None => Err(Status::Line { line: number }),
+    }
+}
 
 /// The first line of a request to `answer`, of this number.
 pub fn read_answer_line(first: &[u8], rest: &[u8], number: u64) -> Result<Draft, Status>
@@ -24,13 +38,7 @@ pub fn read_answer_line(first: &[u8], rest: &[u8], number: u64) -> Result<Draft,
     ensures kind { IfErr result EndsReading }
     ensures no_read { IsErrOf result Status.ReadFault → ⊥ }
 {
-    if first != b"answer".as_slice() {
-        return Err(Status::Line { line: number });
-    }
-    let Some(sizes) = read_sizes_line(rest) else {
-        return Err(Status::Line { line: number });
-    };
-    let geometry = laboratory(&sizes, number)?;
+    let geometry = read_sizes_under(b"answer", first, rest, number)?;
     Ok(Draft::AnswerSizes { geometry })
 }
 
@@ -40,17 +48,15 @@ pub fn read_block_line(
     geometry: Geometry,
     first: &[u8],
     rest: &[u8],
-) -> Result<Option<Draft>, Memory>
-    ensures exact { IfOk result (λ draft. draft ≡ block_line geometry first.now (words_of rest.now)) }
-    ensures in_range { IfOk result (λ draft. IfSome draft IsDraftInRange) }
+) -> Result<Draft, WordFault>
+    ensures exact { ReadsWords (block_line geometry first.now (words_of rest.now)) result }
+    ensures in_range { IfOk result IsDraftInRange }
 {
     if first != b"block".as_slice() {
-        return Ok(None);
+        return Err(WordFault::Outside);
     }
-    match whole_bytes(alloc, rest, geometry.block())? {
-        Some(block) => Ok(Some(Draft::AnswerBlock { geometry, block })),
-        None => Ok(None),
-    }
+    let block = whole_bytes(alloc, rest, geometry.block())?;
+    Ok(Draft::AnswerBlock { geometry, block })
 }
 
 /// The body of the answer.
@@ -60,27 +66,23 @@ pub fn read_body_line(
     block: Bytes,
     first: &[u8],
     rest: &[u8],
-) -> Result<Option<Draft>, Memory>
+) -> Result<Draft, WordFault>
     requires { length block ≡ lengths.block geometry }
-    ensures exact { IfOk result (λ draft. draft ≡ body_line geometry block first.now (words_of rest.now)) }
-    ensures in_range { IfOk result (λ draft. IfSome draft IsDraftInRange) }
+    ensures exact { ReadsWords (body_line geometry block first.now (words_of rest.now)) result }
+    ensures in_range { IfOk result IsDraftInRange }
 {
     if first != b"body".as_slice() {
-        return Ok(None);
+        return Err(WordFault::Outside);
     }
-    match whole_bytes(alloc, rest, geometry.body())? {
-        Some(body) => {
-            let answer = AnswerRequest {
-                geometry,
-                block,
-                body,
-            };
-            Ok(Some(Draft::Whole {
-                request: Request::Answer { answer },
-            }))
-        }
-        None => Ok(None),
-    }
+    let body = whole_bytes(alloc, rest, geometry.body())?;
+    let answer = AnswerRequest {
+        geometry,
+        block,
+        body,
+    };
+    Ok(Draft::Whole {
+        request: Request::Answer { answer },
+    })
 }
 
 /// The first line of a request to `open`, of this number.
@@ -90,13 +92,7 @@ pub fn read_open_line(first: &[u8], rest: &[u8], number: u64) -> Result<Draft, S
     ensures kind { IfErr result EndsReading }
     ensures no_read { IsErrOf result Status.ReadFault → ⊥ }
 {
-    if first != b"open".as_slice() {
-        return Err(Status::Line { line: number });
-    }
-    let Some(sizes) = read_sizes_line(rest) else {
-        return Err(Status::Line { line: number });
-    };
-    let geometry = laboratory(&sizes, number)?;
+    let geometry = read_sizes_under(b"open", first, rest, number)?;
     Ok(Draft::OpenSizes { geometry })
 }
 
@@ -106,30 +102,28 @@ pub fn read_keys_line(
     geometry: Geometry,
     first: &[u8],
     rest: &[u8],
-) -> Result<Option<Draft>, Memory>
-    ensures exact { IfOk result (λ draft. draft ≡ keys_line geometry first.now (words_of rest.now)) }
-    ensures in_range { IfOk result (λ draft. IfSome draft IsDraftInRange) }
+) -> Result<Draft, WordFault>
+    ensures exact { ReadsWords (keys_line geometry first.now (words_of rest.now)) result }
+    ensures in_range { IfOk result IsDraftInRange }
 {
     if first != b"keys".as_slice() {
-        return Ok(None);
+        return Err(WordFault::Outside);
     }
-    match read_keys(alloc, &geometry, rest)? {
-        Some(keys) => Ok(Some(Draft::OpenKeys { geometry, keys })),
-        None => Ok(None),
-    }
+    let keys = read_keys(alloc, &geometry, rest)?;
+    Ok(Draft::OpenKeys { geometry, keys })
 }
 
 // Keys as the only word.
-fn read_keys(alloc: Global, geometry: &Geometry, rest: &[u8]) -> Result<Option<Bytes>, Memory>
-    ensures exact { IfOk result (λ keys. keys ≡ keys_in geometry.now (words_of rest.now)) }
-    ensures in_range { IfOk result (λ keys. IfSome keys (λ bytes. IsTrue (are_keys geometry.now bytes))) }
+fn read_keys(alloc: Global, geometry: &Geometry, rest: &[u8]) -> Result<Bytes, WordFault>
+    ensures exact { ReadsWords (keys_in geometry.now (words_of rest.now)) result }
+    ensures in_range { IfOk result (λ bytes. IsTrue (are_keys geometry.now bytes)) }
 {
-    let Some(word) = one_word(rest) else {
-        return Ok(None);
-    };
-    match read_bytes(alloc, word)? {
-        Some(bytes) if holds_keys(geometry, &bytes) => Ok(Some(Bytes::of(bytes))),
-        _ => Ok(None),
+    let word = one_word(rest).ok_or(WordFault::Outside)?;
+    let bytes = read_bytes(alloc, word)?;
+    if holds_keys(geometry, &bytes) {
+        Ok(Bytes::of(bytes))
+    } else {
+        Err(WordFault::Outside)
     }
 }
 
@@ -148,25 +142,21 @@ pub fn read_payload_line(
     keys: Bytes,
     first: &[u8],
     rest: &[u8],
-) -> Result<Option<Draft>, Memory>
+) -> Result<Draft, WordFault>
     requires { IsTrue (are_keys geometry keys) }
-    ensures exact { IfOk result (λ draft. draft ≡ payload_line geometry keys first.now (words_of rest.now)) }
-    ensures in_range { IfOk result (λ draft. IfSome draft IsDraftInRange) }
+    ensures exact { ReadsWords (payload_line geometry keys first.now (words_of rest.now)) result }
+    ensures in_range { IfOk result IsDraftInRange }
 {
     if first != b"payload".as_slice() {
-        return Ok(None);
+        return Err(WordFault::Outside);
     }
-    match whole_bytes(alloc, rest, geometry.payload())? {
-        Some(payload) => {
-            let opening = OpenRequest {
-                geometry,
-                keys,
-                payload,
-            };
-            Ok(Some(Draft::Whole {
-                request: Request::Open { opening },
-            }))
-        }
-        None => Ok(None),
-    }
+    let payload = whole_bytes(alloc, rest, geometry.payload())?;
+    let opening = OpenRequest {
+        geometry,
+        keys,
+        payload,
+    };
+    Ok(Draft::Whole {
+        request: Request::Open { opening },
+    })
 }

@@ -1,23 +1,16 @@
 // What a request says: the geometry and the seed, how delays are drawn, the hops of the path, and what goes to the
 // recipient. A draft is what its lines said so far.
+use lab_text::SizesLine;
 use mix_base::Bytes;
 use packet_form::Geometry;
 use sphinx_make::Draw;
 use std::alloc::{AllocError, Global};
 use std::marker::Model;
 
-/// The suite and the sizes in the first line of a request.
-#[derive(Clone, Copy, Debug, PartialEq, Eq)]
-pub struct SizesLine {
-    /// Whether the suite is `ntru` and not `lab`.
-    pub ntru: bool,
-    /// 1 to 5.
-    pub hops: usize,
-    /// The bytes of a body, 1 to 4096.
-    pub body: usize,
-}
+/// The length of a key of a reply block, in bytes.
+pub const KEY: usize = 128;
 
-/// The same with a seed.
+/// The first line of a request to `make`: a suite, sizes and a seed.
 #[derive(Clone, Copy, Debug, PartialEq, Eq)]
 pub struct SeedLine {
     pub sizes: SizesLine,

@@ -1,9 +1,11 @@
 // What no clause says: that the texts are those of another program for the same requests, that calls succeed where
 // memory is ample, and that a failing source or sink is named.
 use crate::tool;
-use lab_text::{LineReader, Status};
-use mix_base::{MemSink, MemSource};
-use prim_std::sha256;
+use lab_text::{LineReader, Status, next_word, one_word, read_32};
+use mix_base::{Bytes, Kem, MemSink, MemSource};
+use packet_form::Geometry;
+use prim_std::{LabKem, LabSuite, sha256};
+use sphinx_unwrap::{Out, unwrap};
 use std::alloc::{AllocError, Global};
 use std::process::Abort;
 use std::test::Fail;
@@ -237,5 +239,115 @@ fn failed_calls_are_named(rt: HostRuntime) -> Result<(), Fail> {
     let later = filled(alloc, "# a suite for later\npacket ntru 5 64 S\n")?;
     let (answer, sink) = run(alloc, &["make"], later, &[], &[])?;
     assert!(rt; answer == Some(Status::Later { line: 2 }) && sink.bytes().is_empty());
+    Ok(())
+}
+
+/// Bytes of this number, all different from their neighbours, as hexadecimal digits.
+fn digits(alloc: Global, count: u64) -> Result<String, Fail> {
+    let mut bytes = Vec::new(alloc);
+    for place in 0..count {
+        bytes.push((place % 251) as u8)?;
+    }
+    Ok(hex::encode(alloc, &bytes)?)
+}
+
+/// The bytes that the second of two words spells.
+fn second_bytes(alloc: Global, line: &[u8]) -> Result<Vec<u8>, Fail> {
+    let (_, rest) = next_word(line).ok_or("there is no word")?;
+    let word = one_word(rest).ok_or("there is no second word")?;
+    Ok(hex::decode(alloc, word)?)
+}
+
+/// What the last of five hops finds in a packet of the largest geometry, where all hops have this key.
+fn at_the_last_hop(alloc: Global, key: &[u8; 32], packet: Vec<u8>) -> Result<Out, Fail> {
+    let geometry = Geometry::new(LabKem::CT, 5, 4096)
+        .ok()
+        .ok_or("there is no geometry")?;
+    let mut packet = Bytes::of(packet);
+    for _ in 0..4 {
+        let opened = unwrap::<LabSuite>(alloc, &geometry, key, packet.as_slice())
+            .ok()
+            .ok_or("a hop refuses")?;
+        match opened.out {
+            Out::Forward {
+                next: _,
+                packet: carried,
+            } => packet = carried,
+            _ => return Err("a hop hands nothing on".into()),
+        }
+    }
+    let opened = unwrap::<LabSuite>(alloc, &geometry, key, packet.as_slice())
+        .ok()
+        .ok_or("the last hop refuses")?;
+    Ok(opened.out)
+}
+
+/// A request to make something for a path of five hops with one key, up to its last line.
+fn five_hops(alloc: Global, product: &str) -> Result<Vec<u8>, Fail> {
+    let mut request = filled(alloc, product)?;
+    request.extend_from_slice(&filled(alloc, " lab 5 4096 S\n")?)?;
+    for _ in 0..5 {
+        request.extend_from_slice(&filled(alloc, "hop I K 7\n")?)?;
+    }
+    Ok(request)
+}
+
+/// The text of a command that must succeed.
+fn done(rt: &impl Abort, alloc: Global, word: &str, request: Vec<u8>) -> Result<Vec<u8>, Fail> {
+    let (answer, sink) = run(alloc, &[word], request, &[], &[])?;
+    assert!(rt; answer == Some(Status::Done));
+    Ok(sink.bytes().to_vec(alloc)?)
+}
+
+#[test]
+fn a_packet_of_the_largest_geometry(rt: HostRuntime) -> Result<(), Fail> {
+    let alloc = rt.alloc();
+    let key = read_32(meant(b'K').as_bytes()).ok_or("there is no key")?;
+    let sent = digits(alloc, 4096)?;
+    let mut request = five_hops(alloc, "packet")?;
+    request.extend_from_slice(&filled(alloc, "to R ")?)?;
+    request.extend_from_slice(sent.as_bytes())?;
+    let made = done(&rt, alloc, "make", request)?;
+    let packet = second_bytes(alloc, &line_at(alloc, &made, 1)?)?;
+    match at_the_last_hop(alloc, &key, packet)? {
+        Out::Deliver {
+            recipient,
+            body,
+            block,
+        } => {
+            assert!(rt; recipient == [0x22; 32] && block.is_none());
+            assert!(rt; hex::encode(alloc, body.as_slice())? == sent);
+        }
+        _ => return Err("nothing is delivered".into()),
+    }
+    Ok(())
+}
+
+#[test]
+fn a_reply_of_the_largest_geometry(rt: HostRuntime) -> Result<(), Fail> {
+    let alloc = rt.alloc();
+    let key = read_32(meant(b'K').as_bytes()).ok_or("there is no key")?;
+    let sent = digits(alloc, 4096)?;
+    let sent_line = format!(in alloc; "body {sent}\n")?;
+    let mut request = five_hops(alloc, "block")?;
+    request.extend_from_slice(&filled(alloc, "to R U\n")?)?;
+    let made = done(&rt, alloc, "make", request)?;
+    let block = line_at(alloc, &made, 0)?;
+    let request = three_lines(alloc, "answer lab 5 4096\n", &block, &sent_line)?;
+    let answer = done(&rt, alloc, "answer", request)?;
+    let packet = second_bytes(alloc, &line_at(alloc, &answer, 1)?)?;
+    let payload = match at_the_last_hop(alloc, &key, packet)? {
+        Out::Reply {
+            recipient: _,
+            surb: _,
+            payload,
+        } => hex::encode(alloc, payload.as_slice())?,
+        _ => return Err("nothing comes back".into()),
+    };
+    let keys = line_at(alloc, &made, 1)?;
+    let payload_line = format!(in alloc; "payload {payload}\n")?;
+    let request = three_lines(alloc, "open lab 5 4096\n", &keys, &payload_line)?;
+    let opened = done(&rt, alloc, "open", request)?;
+    assert!(rt; opened.as_slice() == sent_line.as_bytes());
     Ok(())
 }

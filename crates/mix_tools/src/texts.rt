@@ -1,8 +1,9 @@
 // The texts that the commands write.
 ghost use Rattle.std.specs.Prelude.{◌≡◌, ℕ, List, Result, IfOk, string_bytes};
 ghost use Rattle.reply_blocks.specs.Blocks.{keys_seen};
-ghost use Rattle.reply_blocks.specs.Replies.{GivesBody};
-ghost use Rattle.reply_blocks.specs.declared.fault.OpenFault.{OpenFault};
+ghost use Rattle.mix_base.specs.Results.{GivesAs};
+ghost use Rattle.reply_blocks.specs.Faults.{opening_cause};
+ghost use Rattle.reply_blocks.specs.declared.faults.OpenFault.{OpenFault};
 ghost use Rattle.mix_tools.specs.Texts.{bytes_text, keeping_text, key_text, opened_text, sending_text};
 
 use crate::replies::join_keys;
@@ -29,7 +30,8 @@ pub fn sending_lines(alloc: Global, first: &[u8; 32], packet: &[u8]) -> Result<S
 
 /// The lines of a block and the keys that its maker keeps.
 pub fn keeping_lines(alloc: Global, made: &MadeBlock) -> Result<String, AllocError>
-    ensures { IfOk result (λ text. string_bytes text ≡ keeping_text made.now.block (keys_seen made.now.keys)) }
+    ensures { IfOk result (λ text.
+        string_bytes text ≡ keeping_text made.now.block (keys_seen made.now.keys)) }
 {
     let keys = join_keys(alloc, &made.keys)?;
     let block = bytes_line(alloc, "block", made.block.as_slice())?;
@@ -39,7 +41,9 @@ pub fn keeping_lines(alloc: Global, made: &MadeBlock) -> Result<String, AllocErr
 
 /// The line of a body, or `damaged`.
 pub fn opened_line(alloc: Global, opened: Result<Vec<u8>, OpenFault>) -> Result<String, Memory>
-    ensures { (value : Result (List ℕ) OpenFault) → GivesBody (λ body. body.items) opened value → IfOk result (λ text. string_bytes text ≡ opened_text value) }
+    ensures { (value : Result (List ℕ) OpenFault) →
+        GivesAs opening_cause (λ body. body.items) opened value →
+        IfOk result (λ text. string_bytes text ≡ opened_text value) }
 {
     match opened {
         Ok(body) => Ok(bytes_line(alloc, "body", &body)?),

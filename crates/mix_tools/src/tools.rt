@@ -1,24 +1,28 @@
 // The commands over any source and sink. Nothing is written before the whole input was read, and what is written is
 // exactly the text that the input asks for.
-ghost use Rattle.std.specs.Prelude.{◌≡◌, ◌≢◌, ◌↔◌, None, Some, IfOk, IfSome, IsNone, map, option_map, string_bytes};
+ghost use Rattle.std.specs.Prelude.{◌≡◌, ◌≢◌, ◌↔◌, ◌≤◌, map, option_map, string_bytes};
+ghost use Rattle.std.specs.Prelude.{None, Some, IfOk, IfSome, IsNone};
 ghost use Rattle.mix_base.specs.Faults.{Rose};
+ghost use Rattle.prim_std.specs.Laboratory.{lab_scheme};
+ghost use Rattle.epoch_keys.specs.Keys.{epoch_public_key};
+ghost use Rattle.lab_text.specs.Outcomes.{Says};
 ghost use Rattle.lab_text.specs.Readers.{ReachesEnd};
-ghost use Rattle.mix_tools.specs.Answers.{AnswersCommand, AnswersOutcome, EndsInput};
+ghost use Rattle.mix_tools.specs.Answers.{AnswersCommand, AnswersOutcome, EndsInput, Explains, ExplainsInput};
+ghost use Rattle.mix_tools.specs.Answers.{IsReadBy, IsUnwritten};
 ghost use Rattle.mix_tools.specs.Commands.{command_of};
-ghost use Rattle.mix_tools.specs.Outcomes.{Says};
 ghost use Rattle.mix_tools.specs.Drafts.{IsDraftInRange, IsRequestInRange};
-ghost use Rattle.mix_tools.specs.Texts.{answer_to, key_text, owed, public_key_of, text_of};
 ghost use Rattle.mix_tools.specs.Reading.{request_of};
+ghost use Rattle.mix_tools.specs.Texts.{answer_to, key_owed, request_answer};
 
 use crate::commands::{Command, read_command};
-use crate::making::{block_for, packet_for};
+use crate::packets::{block_for, packet_for};
 use crate::reading::read_request;
 use crate::replies::{answer_for, body_for};
 use crate::requests::{Draft, Request};
 use crate::texts::{keeping_lines, key_line, opened_line, sending_lines};
 use epoch_keys::{KeyFault, epoch_pair};
 use lab_text::{LineReader, Status};
-use mix_base::{Memory, Sink, Source};
+use mix_base::{Memory, PutFault, Sink, Source};
 use prim_std::LabSuite;
 use std::alloc::Global;
 
@@ -35,19 +39,36 @@ pub fn tool<I: Source, O: Sink>(
     ensures untouched { IsNone result → (source.new ≡ source.old) × (sink.new ≡ sink.old) }
 
     // Where the source tells the input and the sink what it is given, just the text that is owed is given.
-    ensures text { IfSome result (λ status. IfSome (command_of (map string_bytes words.now)) (λ command.
+    ensures text { IfSome result (λ status.
+        IfSome (command_of (map string_bytes words.now)) (λ command.
         AnswersCommand command (I.left source.old) (O.given sink.old) (O.given sink.new) status)) }
     ensures not_words { result ≢ Some Status.Words }
 
+    // Line and Later have their cause wherever the source tells the input, whatever the sink tells.
+    ensures cause { IfSome result (λ status.
+        IfSome (command_of (map string_bytes words.now)) (λ command.
+        ExplainsInput command (I.left source.old) status)) }
+
+    // What is left as it was: the sink where the input stops, and the source of `keys`.
+    ensures unwritten { IfSome result (λ status. IsUnwritten status sink.old sink.new) }
+    ensures keys_reads_nothing { IfSome (command_of (map string_bytes words.now)) (λ command.
+        IsReadBy command source.old source.new) }
+
     // Nothing is given before the input was read to its end; `keys` reads nothing.
-    ensures end { result ≡ Some Status.Done → IfSome (command_of (map string_bytes words.now)) (λ command.
+    ensures end { result ≡ Some Status.Done →
+        IfSome (command_of (map string_bytes words.now)) (λ command.
         EndsInput command (I.left source.old) (I.left source.new)) }
-    ensures given_at_end { O.given sink.new ≢ O.given sink.old → IfSome (command_of (map string_bytes words.now)) (λ command.
+    ensures given_at_end { O.given sink.new ≢ O.given sink.old →
+        IfSome (command_of (map string_bytes words.now)) (λ command.
         EndsInput command (I.left source.old) (I.left source.new)) }
 
     // A fault comes only where the source or the sink has failed in this call.
-    ensures read_fault { result ≡ Some Status.ReadFault → Rose (I.faults source.old) (I.faults source.new) }
-    ensures write_fault { result ≡ Some Status.WriteFault → Rose (O.faults sink.old) (O.faults sink.new) }
+    ensures read_fault { result ≡ Some Status.ReadFault →
+        Rose (I.faults source.old) (I.faults source.new) }
+    ensures write_fault { result ≡ Some Status.WriteFault →
+        Rose (O.faults sink.old) (O.faults sink.new) }
+    ensures source_faults { I.faults source.old ≤ I.faults source.new }
+    ensures sink_faults { O.faults sink.old ≤ O.faults sink.new }
 {
     match read_command(words)? {
         Command::Keys { seed, epoch } => Some(write_key(alloc, sink, &seed, epoch)),
@@ -59,10 +80,15 @@ pub fn tool<I: Source, O: Sink>(
 
 // Writes the public key of an epoch.
 fn write_key<O: Sink>(alloc: Global, sink: &mut O, seed: &[u8; 32], epoch: u64) -> Status
-    ensures text { AnswersOutcome (Some (Says (key_text epoch (public_key_of seed.now epoch)))) (O.given sink.old) (O.given sink.new) result }
+    ensures text { AnswersOutcome (Some (key_owed epoch (epoch_public_key lab_scheme seed.now epoch)))
+        (O.given sink.old) (O.given sink.new) result }
+    ensures cause { Explains (key_owed epoch (epoch_public_key lab_scheme seed.now epoch)) result }
+    ensures unwritten { IsUnwritten result sink.old sink.new }
     ensures not_words { result ≢ Status.Words }
     ensures not_read { result ≢ Status.ReadFault }
-    ensures write_fault { result ≡ Status.WriteFault → Rose (O.faults sink.old) (O.faults sink.new) }
+    ensures write_fault { result ≡ Status.WriteFault →
+        Rose (O.faults sink.old) (O.faults sink.new) }
+    ensures faults { O.faults sink.old ≤ O.faults sink.new }
 {
     match epoch_pair::<LabSuite>(alloc, seed, epoch) {
         Ok(key) => match key_line(alloc, epoch, key.pk.as_slice()) {
@@ -82,12 +108,23 @@ fn answer_request<I: Source, O: Sink>(
     sink: &mut O,
 ) -> Status
     requires { IsDraftInRange draft }
-    ensures text { AnswersOutcome (option_map (λ text. answer_to (request_of draft text)) (I.left source.old)) (O.given sink.old) (O.given sink.new) result }
+    ensures text { AnswersOutcome
+        (option_map (λ text. answer_to (request_of draft text)) (I.left source.old))
+        (O.given sink.old) (O.given sink.new) result }
+    ensures cause { IfSome
+        (option_map (λ text. answer_to (request_of draft text)) (I.left source.old))
+        (λ outcome. Explains outcome result) }
+    ensures unwritten { IsUnwritten result sink.old sink.new }
     ensures end { result ≡ Status.Done → ReachesEnd (I.left source.old) (I.left source.new) }
-    ensures given_at_end { O.given sink.new ≢ O.given sink.old → ReachesEnd (I.left source.old) (I.left source.new) }
+    ensures given_at_end { O.given sink.new ≢ O.given sink.old →
+        ReachesEnd (I.left source.old) (I.left source.new) }
     ensures not_words { result ≢ Status.Words }
-    ensures read_fault { result ≡ Status.ReadFault → Rose (I.faults source.old) (I.faults source.new) }
-    ensures write_fault { result ≡ Status.WriteFault → Rose (O.faults sink.old) (O.faults sink.new) }
+    ensures read_fault { result ≡ Status.ReadFault →
+        Rose (I.faults source.old) (I.faults source.new) }
+    ensures write_fault { result ≡ Status.WriteFault →
+        Rose (O.faults sink.old) (O.faults sink.new) }
+    ensures source_faults { I.faults source.old ≤ I.faults source.new }
+    ensures sink_faults { O.faults sink.old ≤ O.faults sink.new }
 {
     let mut reader = LineReader::new(alloc, source);
     let read = read_request(alloc, &mut reader, draft);
@@ -101,10 +138,15 @@ fn answer_request<I: Source, O: Sink>(
 // Writes the answer to a request.
 fn write_answer<O: Sink>(alloc: Global, sink: &mut O, request: &Request) -> Status
     requires { IsRequestInRange request.now }
-    ensures text { AnswersOutcome (Some (Says (text_of request.now))) (O.given sink.old) (O.given sink.new) result }
+    ensures text { AnswersOutcome (Some (Says (request_answer request.now)))
+        (O.given sink.old) (O.given sink.new) result }
+    ensures cause { Explains (Says (request_answer request.now)) result }
+    ensures unwritten { IsUnwritten result sink.old sink.new }
     ensures not_words { result ≢ Status.Words }
     ensures not_read { result ≢ Status.ReadFault }
-    ensures write_fault { result ≡ Status.WriteFault → Rose (O.faults sink.old) (O.faults sink.new) }
+    ensures write_fault { result ≡ Status.WriteFault →
+        Rose (O.faults sink.old) (O.faults sink.new) }
+    ensures faults { O.faults sink.old ≤ O.faults sink.new }
 {
     match answer_text(alloc, request) {
         Ok(text) => give(alloc, sink, &text),
@@ -115,7 +157,7 @@ fn write_answer<O: Sink>(alloc: Global, sink: &mut O, request: &Request) -> Stat
 // The text of the answer to a request.
 fn answer_text(alloc: Global, request: &Request) -> Result<String, Memory>
     requires { IsRequestInRange request.now }
-    ensures { IfOk result (λ text. string_bytes text ≡ text_of request.now) }
+    ensures { IfOk result (λ text. string_bytes text ≡ request_answer request.now) }
 {
     match request {
         Request::Packet { packet } => {
@@ -136,13 +178,19 @@ fn answer_text(alloc: Global, request: &Request) -> Result<String, Memory>
 
 // Gives a whole text.
 fn give<O: Sink>(alloc: Global, sink: &mut O, text: &String) -> Status
-    ensures text { AnswersOutcome (Some (Says (string_bytes text.now))) (O.given sink.old) (O.given sink.new) result }
+    ensures text { AnswersOutcome (Some (Says (string_bytes text.now)))
+        (O.given sink.old) (O.given sink.new) result }
+    ensures cause { Explains (Says (string_bytes text.now)) result }
+    ensures unwritten { IsUnwritten result sink.old sink.new }
     ensures not_words { result ≢ Status.Words }
     ensures not_read { result ≢ Status.ReadFault }
-    ensures write_fault { result ≡ Status.WriteFault → Rose (O.faults sink.old) (O.faults sink.new) }
+    ensures write_fault { result ≡ Status.WriteFault →
+        Rose (O.faults sink.old) (O.faults sink.new) }
+    ensures faults { O.faults sink.old ≤ O.faults sink.new }
 {
     match sink.put(alloc, text.as_bytes()) {
         Ok(()) => Status::Done,
-        Err(fault) => Status::from(fault),
+        Err(PutFault::WriteFault) => Status::WriteFault,
+        Err(PutFault::Memory) => Status::Memory,
     }
 }

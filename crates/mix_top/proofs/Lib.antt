@@ -1,4 +1,6 @@
+pub mod Giving
 pub mod HandedLines
+pub mod HonestLines
 pub mod Members
 pub mod Once
 pub mod Programs

@@ -2,7 +2,7 @@
 use Rattle.std.proofs.Common.{ℕ, List, [], ◌∷◌, ◌++◌, inl, inr, sym, subst}
 use Rattle.std.specs.List.{Contains}
 use Rattle.std.proofs.lemmas.List.Elements.{Contains-append_left, Contains-append_right, Contains-push_cases, Contains-append_cases}
-use Rattle.epoch_keys.proofs.Members.{none_in_empty, Contains-cons_cases, Contains-head, Contains-tail}
+use Rattle.mix_base.proofs.Members.{none_in_empty, Contains-cons_cases, Contains-head, Contains-tail}
 use Rattle.mix_top.specs.Report.{NoneTwice}
 
 -- what is in the list with one entry taken out was in it

@@ -1,20 +1,25 @@
 -- At most once: a report hands on no pair of epoch and tag twice. Each pair that a node holds or has handed on is
 -- covered by its book ever after, and a covered pair isn't accepted again.
-use Rattle.std.proofs.Common.{◌≡◌, ℕ, suc, ◌<◌, ◌≤◌, nat_lt, nat_le, Bool, true, false, cond, List, [], ◌∷◌, ◌++◌, take, drop, map, ◌⊎◌, inl, inr, refl, ap, ◌∙◌, sym, subst, slice_set, Option, Some, None, Result, Ok, Err, arith}
+use Rattle.std.proofs.Common.{◌≡◌, ℕ, suc, ◌<◌, ◌≤◌, nat_lt, nat_le, Bool, true, false, cond, List, [], ◌∷◌, ◌++◌, take, drop, map, ◌⊎◌, inl, inr, refl, ap, ◌∙◌, sym, subst, slice_set, Option, Some, None, option_map, Result, Ok, Err, arith}
 use Rattle.std.specs.List.{Contains, remove, slice_get}
 use Rattle.std.proofs.Math.Seq.{drop-cons}
 use Rattle.std.proofs.lemmas.List.{map-append, take-append-drop}
 use Rattle.std.proofs.lemmas.Option.{slice_get_within, get_or_from_slice_get}
 use Rattle.std.proofs.lemmas.Bool.{cases_lt, ltb-true, le-leb}
 use Rattle.std.proofs.lemmas.List.Elements.{Contains-append_left, Contains-append_right, Contains-push, Contains-push_cases}
-use Rattle.epoch_keys.proofs.Members.{none_in_empty, Contains-filter, Contains-head, Contains-cons_cases}
+use Rattle.mix_base.proofs.Members.{none_in_empty, Contains-filter, Contains-head, Contains-cons_cases}
 use Rattle.mix_top.proofs.Members.{Contains-without, NoneTwice-push, NoneTwice-without}
 use Rattle.mix_top.specs.Book.{Book, Claims, raise, add, kept}
 use Rattle.epoch_keys.specs.Epochs.{least_live}
 use Rattle.mix_top.specs.Report.{handed, NoneTwice}
 use Rattle.mix_top.specs.Node.{NodeState, new_node}
+use Rattle.mix_top.specs.Program.{Program}
+use Rattle.mix_top.specs.Promise.{IsReportOf, IsReportOfFirst, Owes}
 use Rattle.mix_top.specs.Run.{Runs}
-use Rattle.mix_top.specs.Step.{Step, peeled_by, taken, settled, opened_at, worker_at, ClaimsFor, Admits, Sends, received}
+use Rattle.lab_text.specs.declared.statuses.Status.{Status}
+use Rattle.lab_text.specs.declared.statuses.Status.TheVariants.{Done, Words, Line, ReadFault, WriteFault, Memory, Later}
+use Rattle.mix_top.specs.Keys.{opened_at}
+use Rattle.mix_top.specs.Step.{Step, peeled_by, taken, settled, worker_at, ClaimsFor, Admits, Sends, received}
 use Rattle.mix_top.specs.declared.items.Arrival.{Arrival}
 use Rattle.mix_top.specs.declared.items.Item.{Item}
 use Rattle.mix_top.specs.declared.items.Setup.{Setup}
@@ -25,7 +30,7 @@ use Rattle.mix_top.specs.declared.script.Event.TheVariants as events
 use Rattle.mix_top.specs.declared.book.Claim.{Claim}
 use Rattle.mix_top.specs.declared.book.Claim.TheVariants as claims
 use Rattle.sphinx_unwrap.specs.declared.outcome.Opened.{Opened}
-use Rattle.sphinx_unwrap.specs.declared.fault.Refused.{Refused}
+use Rattle.sphinx_unwrap.specs.declared.faults.Refused.{Refused}
 
 -- the pair is below the floor, or spent
 abbrev pub Covers : Book → ℕ × List ℕ → Type 0
@@ -83,15 +88,23 @@ settled_moves : (old state : NodeState) (worker : ℕ) (arrival : Arrival) (foun
 settled_moves old state worker arrival (Ok found) lines new held book same = keeps old _ lines new refl held book same
 settled_moves old state worker arrival (Err why) lines new held book same = keeps old _ lines new refl held book same
 
+opened_moves : (old state : NodeState) (worker : ℕ) (arrival : Arrival) (opened : Option (Result (ℕ × Opened) Refused)) (lines : List ReportLine) (new : NodeState)
+    → state.held ≡ old.held → state.book ≡ old.book → option_map (settled state worker arrival) opened ≡ Some (lines, new) → Moves old lines new
+opened_moves old state worker arrival None lines new held book same = absurd (cc)
+opened_moves old state worker arrival (Some found) lines new held book same =
+    let made : settled state worker arrival found ≡ (lines, new) = cc in settled_moves old state worker arrival found lines new held book made
+
 taken_moves : (setup : Setup) (old : NodeState) (worker : ℕ) (arrivals : List Arrival) (lines : List ReportLine) (new : NodeState)
-    → taken setup old worker arrivals ≡ (lines, new) → Moves old lines new
-taken_moves setup old worker [] lines new same = keeps old _ lines new refl refl refl same
+    → taken setup old worker arrivals ≡ Some (lines, new) → Moves old lines new
+taken_moves setup old worker [] said new same =
+    let made : (lines.Idle worker ∷ [], old) ≡ (said, new) = cc in keeps old (lines.Idle worker ∷ [], old) said new refl refl refl made
 taken_moves setup old worker (arrival ∷ others) lines new same =
-    settled_moves old (record old { arrivals = others }) worker arrival (opened_at setup arrival) lines new refl refl same
+    opened_moves old (record old { arrivals = others }) worker arrival (opened_at setup arrival) lines new refl refl same
 
 peel_moves : (setup : Setup) (old : NodeState) (worker : ℕ) (holds : Option Item) (lines : List ReportLine) (new : NodeState)
-    → peeled_by setup old worker holds ≡ (lines, new) → Moves old lines new
-peel_moves setup old worker (Some item) lines new same = keeps old _ lines new refl refl refl same
+    → peeled_by setup old worker holds ≡ Some (lines, new) → Moves old lines new
+peel_moves setup old worker (Some item) said new same =
+    let made : (lines.Busy worker ∷ [], old) ≡ (said, new) = cc in keeps old (lines.Busy worker ∷ [], old) said new refl refl refl made
 peel_moves setup old worker None lines new same = taken_moves setup old worker old.arrivals lines new same
 
 -- lines that hand nothing on, and the same packets and book, from what a step says of them
@@ -129,7 +142,7 @@ moves setup old (events.Peel worker) lines new step = peel_moves setup old worke
 moves setup old (events.Claim worker) lines new step = claim_moves setup old worker (worker_at old worker) lines new step
 moves setup old (events.Send moment) lines new step = send_moves old moment lines new step
 moves setup old events.Skip lines new step = stays old old lines _ new refl refl refl step.0 step.1
-moves setup old events.Later lines new step = absurd step
+moves setup old events.Later lines new step = stays old old lines _ new refl refl refl step.0 step.1
 
 -- a list before, at and behind an item's place
 at_place : (items : List Item) (place : ℕ) (item : Item) → slice_get items place ≡ Some item → items ≡ take place items ++ item ∷ drop (suc place) items
@@ -256,6 +269,24 @@ run_once setup (event ∷ events) old report new was (between, lines, others, st
     (move_first old lines between (handed others) was move (run_once setup events between others new (moved_once old lines between move was) rest))
 
 -- a run of a new node hands on no pair twice
-pub at_most_once : (setup : Setup) (events : List (ℕ × Event)) (report : List ReportLine) (new : NodeState) → Runs setup new_node events report new → NoneTwice (handed report)
+at_most_once : (setup : Setup) (events : List (ℕ × Event)) (report : List ReportLine) (new : NodeState) → Runs setup new_node events report new → NoneTwice (handed report)
 at_most_once setup events report new run =
     (run_once setup events new_node report new (record { once = tt; covered = λ pair found. absurd (none_in_empty pair found) }) run).once
+
+-- a report that is owed hands on no pair twice
+
+once_in_report : (setup : Option Setup) (events : List (ℕ × Event)) (report : List ReportLine) → IsReportOf setup events report → NoneTwice (handed report)
+once_in_report None events report (none, empty) = subst (λ (r : List ReportLine). NoneTwice (handed r)) (sym empty) tt
+once_in_report (Some setup) events report (end, run) = at_most_once setup events report end run
+
+once_of_first : (program : Program) (report : List ReportLine) → IsReportOfFirst program report → NoneTwice (handed report)
+once_of_first program report (count, first) = once_in_report program.setup (take count program.events.list) report first
+
+pub once_owed : (program : Program) (status : Status) (report : List ReportLine) → Owes program status report → NoneTwice (handed report)
+once_owed program Done report owed = once_in_report program.setup program.events.list report owed.1
+once_owed program (Line number) report owed = once_in_report program.setup program.events.list report owed.1
+once_owed program (Later number) report owed = once_in_report program.setup program.events.list report owed.1
+once_owed program ReadFault report owed = once_of_first program report owed
+once_owed program WriteFault report owed = once_of_first program report owed
+once_owed program Memory report owed = once_of_first program report owed
+once_owed program Words report owed = absurd owed

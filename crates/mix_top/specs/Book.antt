@@ -28,6 +28,6 @@ add book epoch tag = record { floor = book.floor; pairs = book.pairs ++ (epoch, 
 -- a claim of an epoch's tag, with the least epoch live at the packet's receipt: each answer exactly where it is due,
 -- and the book after it
 abbrev pub Claims : Book → ℕ → List ℕ → ℕ → Claim → Book → Type 0
-Claims old epoch tag least Accepted new = (old.floor ≤ epoch) × (Contains old.pairs (epoch, tag) → ⊥) × (new ≡ add (raise old least) epoch tag)
+Claims old epoch tag least Accepted new = (old.floor ≤ epoch) × ¬ Contains old.pairs (epoch, tag) × (new ≡ add (raise old least) epoch tag)
 Claims old epoch tag least (Retired floor) new = (epoch < old.floor) × (floor ≡ old.floor) × (new ≡ old)
 Claims old epoch tag least Spent new = (old.floor ≤ epoch) × Contains old.pairs (epoch, tag) × (new ≡ old)

@@ -1,19 +1,22 @@
 -- A script as what it asks for: how the node is set up, the events with the numbers of their lines, and how it ends.
-use Rattle.std.specs.Prelude.{ℕ, ◌+◌, Bool, ◌==◌, ◌&&◌, not, if◌then◌else◌, List, [], ◌∷◌, Option, Some, None}
+use Rattle.std.specs.Prelude.{ℕ, ◌+◌, Bool, true, false, ◌==◌, ◌&&◌, not, if◌then◌else◌, List, [], ◌∷◌, Option, Some, None}
+use Rattle.prim_std.specs.Laboratory.{lab_scheme}
 use Rattle.lab_text.specs.Lines.{ScriptLine, Text, TooLong, lines_from}
-use Rattle.mix_top.specs.Script.{event_of, node_of}
+use Rattle.lab_text.specs.Sizes.{geometry_of}
 use Rattle.lab_text.specs.Words.{words_of}
 use Rattle.lab_text.specs.WordForms.{says_nothing}
+use Rattle.mix_top.specs.Script.{event_of, node_of}
 use Rattle.mix_top.specs.declared.items.Setup.{Setup}
 use Rattle.mix_top.specs.declared.script.Event.{Event}
-use Rattle.mix_top.specs.declared.script.NodeLine.{NodeLine}
+use Rattle.mix_top.specs.declared.script.Event.TheVariants.{Recv, Peel, Claim, Send, Skip, Later}
+use Rattle.mix_top.specs.declared.script.NodeWords.{NodeWords}
 
 -- where a script ends
 pub data Ending : Type 0 where
   AtEnd : Ending
   -- before the line of this number, which is outside the grammar
   Outside : (line : ℕ) → Ending
-  -- before the node line, at this number, which asks for what isn't built yet
+  -- before the line of this number, which asks for what isn't built yet
   NotBuilt : (line : ℕ) → Ending
 
 -- events with the numbers of their lines, and how the script ends behind them
@@ -25,10 +28,23 @@ pub record Events : Type 0 where
 abbrev pub ends : Ending → Events
 ends ending = record { list = []; ending = ending }
 
+-- an event, with the number of its line, in front of others
+abbrev pub onto : ℕ × Event → Events → Events
+onto event others = record { list = event ∷ others.list; ending = others.ending }
+
+-- a line that asks for what isn't built yet
+abbrev pub is_not_built : Event → Bool
+is_not_built Later = true
+is_not_built (Recv moment packet) = false
+is_not_built (Peel worker) = false
+is_not_built (Claim worker) = false
+is_not_built (Send moment) = false
+is_not_built Skip = false
+
 -- the events of a line and of those behind it
 abbrev pub then_event : ℕ → Option Event → Events → Events
 then_event number None others = ends (Outside number)
-then_event number (Some event) others = record { list = (number, event) ∷ others.list; ending = others.ending }
+then_event number (Some event) others = if is_not_built event then ends (NotBuilt number) else onto (number, event) others
 
 -- the events of lines, the first of which has this number, up to the first line that gives none
 abbrev pub events_from : ℕ → List ScriptLine → Events
@@ -37,14 +53,14 @@ events_from number (TooLong ∷ lines) = ends (Outside number)
 events_from number (Text line ∷ lines) = then_event number (event_of 1 line) (events_from (number + 1) lines)
 
 -- a node that is built: of the laboratory suite, with one shard
-abbrev pub is_built : NodeLine → Bool
-is_built node = not node.ntru && node.shards == 1
+abbrev pub is_built : NodeWords → Bool
+is_built node = not node.sizes.ntru && node.shards == 1
 
--- how it is set up; a laboratory ciphertext has 48 bytes
-abbrev pub setup_of : NodeLine → Setup
+-- how it is set up
+abbrev pub setup_of : NodeWords → Setup
 setup_of node = record {
-  geometry = record { ct = 48; hops = node.hops; body = node.body };
-  times = record { epoch = node.epoch; grace = node.grace };
+  geometry = geometry_of lab_scheme.ciphertext node.sizes;
+  times = node.times;
   seed = node.seed;
 }
 
@@ -57,11 +73,15 @@ pub record Program : Type 0 where
 abbrev pub no_node : Ending → Program
 no_node ending = record { setup = None; events = ends ending }
 
+-- a script whose node is set up, and its events
+abbrev pub set_up : Setup → Events → Program
+set_up setup events = record { setup = Some setup; events = events }
+
 -- a script with this node line, and the lines behind it
-abbrev pub with_node : ℕ → Option NodeLine → List ScriptLine → Program
+abbrev pub with_node : ℕ → Option NodeWords → List ScriptLine → Program
 with_node number None lines = no_node (Outside number)
 with_node number (Some node) lines =
-    if is_built node then record { setup = Some (setup_of node); events = events_from (number + 1) lines } else no_node (NotBuilt number)
+    if is_built node then set_up (setup_of node) (events_from (number + 1) lines) else no_node (NotBuilt number)
 
 -- the script of lines, the first of which has this number: the first line that isn't skipped is the node line
 abbrev pub program_from : ℕ → List ScriptLine → Program

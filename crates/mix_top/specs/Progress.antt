@@ -1,138 +1,90 @@
 -- How far a script has been answered: what is still to come of it, and how a step on the way may end it.
-use Rattle.std.specs.Prelude.{◌≡◌, ℕ, ◌+◌, ◌⊎◌, List, ◌∷◌, ◌++◌, take, Option, Some, IfSome, IsSomeAnd, option_map}
+use Rattle.std.specs.Prelude.{◌≡◌, ⊤, ℕ, ◌+◌, ◌⊎◌, List, ◌++◌, take, Option, IfSome, IsSomeAnd, option_map}
 use Rattle.mix_base.specs.declared.reading.Source.{Ghosts}
-use Rattle.mix_top.specs.Answers.{Owes, IsGiven}
-use Rattle.mix_top.specs.Node.{NodeState, new_node}
-use Rattle.mix_top.specs.Program.{Events, Program, Outside, NotBuilt, ends, events_from, program_from, no_node}
-use Rattle.lab_text.specs.Readers.{coming, number_of}
-use Rattle.mix_top.specs.Report.{text}
-use Rattle.mix_top.specs.Run.{Runs}
-use Rattle.mix_top.specs.Step.{Step, IsNotBuilt}
-use Rattle.mix_top.specs.declared.items.Setup.{Setup}
+use Rattle.prim_std.specs.Laboratory.{lab_scheme}
+use Rattle.epoch_keys.specs.Epochs.{InRange}
+use Rattle.lab_text.specs.Given.{Gave}
+use Rattle.lab_text.specs.Readers.{coming, lines_given}
 use Rattle.lab_text.specs.declared.lines.LineReader.{LineReader}
-use Rattle.mix_top.specs.declared.report.ReportLine.{ReportLine}
-use Rattle.mix_top.specs.declared.script.Event.{Event}
 use Rattle.lab_text.specs.declared.statuses.Status.{Status}
 use Rattle.lab_text.specs.declared.statuses.Status.TheVariants.{Done, Words, Line, ReadFault, WriteFault, Memory, Later}
+use Rattle.mix_top.specs.Node.{NodeState, new_node}
+use Rattle.mix_top.specs.Program.{Ending, AtEnd, Outside, NotBuilt, Events, Program, events_from, onto, program_from, set_up}
+use Rattle.mix_top.specs.Promise.{Answers}
+use Rattle.mix_top.specs.Report.{text}
+use Rattle.mix_top.specs.Run.{Runs}
+use Rattle.mix_top.specs.Step.{Step}
+use Rattle.mix_top.specs.declared.items.Setup.{Setup}
+use Rattle.mix_top.specs.declared.report.ReportLine.{ReportLine}
+use Rattle.mix_top.specs.declared.script.Event.{Event}
+
+-- a setup that a node is built for: the laboratory's ciphertext, and times that may be chosen
+pub record IsServed (setup : Setup) : Type 0 where
+  pub laboratory : setup.geometry.ct ≡ lab_scheme.ciphertext
+  pub times : InRange setup.times
 
 -- the events to come, where the source tells what is left
 abbrev pub events_to_come : {I : Type 0} {G : Ghosts I} → LineReader I G → Option Events
-events_to_come reader = option_map (events_from (number_of reader + 1)) (coming reader)
+events_to_come reader = option_map (events_from (lines_given reader + 1)) (coming reader)
 
 -- the program to come, where the source tells what is left
 abbrev pub program_to_come : {I : Type 0} {G : Ghosts I} → LineReader I G → Option Program
-program_to_come reader = option_map (program_from (number_of reader + 1)) (coming reader)
+program_to_come reader = option_map (program_from (lines_given reader + 1)) (coming reader)
 
--- reading the next event ended with a status, where these events were to come
-abbrev pub EndsEvents : Events → Status → Type 0
-EndsEvents events (Line number) = events ≡ ends (Outside number)
-EndsEvents events (Later number) = ⊥
-EndsEvents events ReadFault = Unit {0}
-EndsEvents events Memory = Unit {0}
-EndsEvents events Done = ⊥
-EndsEvents events Words = ⊥
-EndsEvents events WriteFault = ⊥
-
--- reading the node line ended with a status, where this program was to come
-abbrev pub EndsProgram : Program → Status → Type 0
-EndsProgram program (Line number) = program ≡ no_node (Outside number)
-EndsProgram program (Later number) = program ≡ no_node (NotBuilt number)
-EndsProgram program ReadFault = Unit {0}
-EndsProgram program Memory = Unit {0}
-EndsProgram program Done = ⊥
-EndsProgram program Words = ⊥
-EndsProgram program WriteFault = ⊥
+-- reading ended with a status, where this was to come; `stop` is what an input is that ends at once
+abbrev pub EndsAs : {X : Type 0} → (Ending → X) → X → Status → Type 0
+EndsAs stop input Done = input ≡ stop AtEnd
+EndsAs stop input (Line number) = input ≡ stop (Outside number)
+EndsAs stop input (Later number) = input ≡ stop (NotBuilt number)
+EndsAs stop input ReadFault = ⊤
+EndsAs stop input Memory = ⊤
+EndsAs stop input Words = ⊥
+EndsAs stop input WriteFault = ⊥
 
 -- an event, with the number of its line, is the next of those to come
 abbrev pub IsNext : ℕ × Event → Option Events → Option Events → Type 0
-IsNext event before after = IfSome before (λ now. IsSomeAnd after (λ others. now ≡ record { list = event ∷ others.list; ending = others.ending }))
+IsNext event before after = IfSome before (λ now. IsSomeAnd after (λ others. now ≡ onto event others))
 
--- what an event may end with
-abbrev pub EndsEvent : Status → Type 0
-EndsEvent (Later number) = Unit {0}
-EndsEvent WriteFault = Unit {0}
-EndsEvent Memory = Unit {0}
-EndsEvent (Line number) = ⊥
-EndsEvent ReadFault = ⊥
-EndsEvent Done = ⊥
-EndsEvent Words = ⊥
+-- the node line of the program to come was read: the events behind it are to come
+abbrev pub SetsUp : Setup → Option Program → Option Events → Type 0
+SetsUp setup before after = IfSome before (λ program. IsSomeAnd after (λ events. program ≡ set_up setup events))
 
--- what reading a line may end with
-abbrev pub EndsReading : Status → Type 0
-EndsReading (Line number) = Unit {0}
-EndsReading (Later number) = Unit {0}
-EndsReading ReadFault = Unit {0}
-EndsReading Memory = Unit {0}
-EndsReading Done = ⊥
-EndsReading Words = ⊥
-EndsReading WriteFault = ⊥
+-- where a sink tells, it was given the text of these lines; or a front of it
+abbrev pub GaveText : Option (List ℕ) → Option (List ℕ) → List ReportLine → Type 0
+GaveText before after lines = Gave before after (λ bytes. bytes ≡ text lines)
 
--- what a script may end with before its end
-abbrev pub EndsAnswer : Status → Type 0
-EndsAnswer Done = ⊥
-EndsAnswer Words = ⊥
-EndsAnswer _ = Unit {0}
-
--- an event was left out, or was met and a front of its lines was given
-abbrev pub IsCut : Setup → NodeState → Event → List ℕ → List ℕ → Type 0
-IsCut setup old event before after =
-    (after ≡ before)
-    ⊎ ((lines : List ReportLine) × (new : NodeState) × (count : ℕ) × Step setup old event lines new × (after ≡ before ++ take count (text lines)))
-
--- an event, with the number of its line, ended the script with a status
-abbrev pub EndsAtEvent : Setup → NodeState → ℕ × Event → Status → List ℕ → List ℕ → Type 0
-EndsAtEvent setup old event (Later number) before after = (number ≡ event.0) × IsNotBuilt event.1 × (after ≡ before)
-EndsAtEvent setup old event WriteFault before after = IsCut setup old event.1 before after
-EndsAtEvent setup old event Memory before after = IsCut setup old event.1 before after
-EndsAtEvent setup old event (Line number) before after = ⊥
-EndsAtEvent setup old event ReadFault before after = ⊥
-EndsAtEvent setup old event Done before after = ⊥
-EndsAtEvent setup old event Words before after = ⊥
+abbrev pub GaveFront : Option (List ℕ) → Option (List ℕ) → List ReportLine → Type 0
+GaveFront before after lines = Gave before after (λ bytes. (count : ℕ) × (bytes ≡ take count (text lines)))
 
 -- an event was met, and its lines were given
-abbrev pub IsMet : Setup → NodeState → Event → NodeState → List ℕ → List ℕ → Type 0
-IsMet setup old event new before after = (lines : List ReportLine) × Step setup old event lines new × (after ≡ before ++ text lines)
+abbrev pub IsMet : Setup → NodeState → Event → NodeState → Option (List ℕ) → Option (List ℕ) → Type 0
+IsMet setup old event new before after =
+    (lines : List ReportLine) × Step setup old event lines new × GaveText before after lines
+
+-- an event was left out, or was met and a front of its lines was given
+abbrev pub IsCut : Setup → NodeState → Event → Option (List ℕ) → Option (List ℕ) → Type 0
+IsCut setup old event before after =
+    (after ≡ before)
+    ⊎ ((lines : List ReportLine) × (new : NodeState) × Step setup old event lines new × GaveFront before after lines)
 
 -- of all events these are still to come, and those before them took a new node here and gave their report
-pub record Progress (setup : Setup) (whole rest : Events) (node : NodeState) (before after : List ℕ) : Type 0 where
+pub record Progress (setup : Setup) (whole rest : Events) (node : NodeState) (before after : Option (List ℕ)) : Type 0 where
   pub done : List (ℕ × Event)
   pub report : List ReportLine
   pub list : whole.list ≡ done ++ rest.list
   pub ending : whole.ending ≡ rest.ending
   pub run : Runs setup new_node done report node
-  pub given : after ≡ before ++ text report
+  pub given : GaveText before after report
 
--- the events were answered, to the end that the status says
-pub record Finishes (setup : Setup) (events : Events) (status : Status) (before after : List ℕ) : Type 0 where
-  pub report : List ReportLine
-  pub bytes : List ℕ
-  pub owed : Owes (record { setup = Some setup; events = events }) status report
-  pub given : IsGiven status report bytes
-  pub behind : after ≡ before ++ bytes
-
--- the same, where the source tells the events to come and the sink what it was given
-abbrev pub AnswersEvents : Setup → Option Events → Option (List ℕ) → Option (List ℕ) → Status → Type 0
-AnswersEvents setup events before after status =
-    IfSome events (λ whole. IfSome before (λ first. IsSomeAnd after (λ last. Finishes setup whole status first last)))
-
--- progress, where the source tells the events to come and the sink what it was given
+-- the same, where the source tells the events to come
 abbrev pub Tracks : Setup → Option Events → Option Events → NodeState → Option (List ℕ) → Option (List ℕ) → Type 0
 Tracks setup events rest node before after =
-    IfSome events (λ whole. IfSome before (λ first. IsSomeAnd rest (λ more. IsSomeAnd after (λ last. Progress setup whole more node first last))))
+    IfSome events (λ whole. IsSomeAnd rest (λ more. Progress setup whole more node before after))
 
--- the node line of the program to come was read: the events behind it are to come
-abbrev pub SetsUp : Setup → Option Program → Option Events → Type 0
-SetsUp setup before after = IfSome before (λ program. IsSomeAnd after (λ events. program ≡ record { setup = Some setup; events = events }))
+-- the program to come was answered, where the source tells it
+abbrev pub AnswersProgram : Option Program → Status → Option (List ℕ) → Option (List ℕ) → Type 0
+AnswersProgram program status before after = IfSome program (λ whole. Answers whole status before after)
 
--- the program was answered, to the end that the status says
-pub record FinishesProgram (program : Program) (status : Status) (before after : List ℕ) : Type 0 where
-  pub report : List ReportLine
-  pub bytes : List ℕ
-  pub owed : Owes program status report
-  pub given : IsGiven status report bytes
-  pub behind : after ≡ before ++ bytes
-
--- the same, where the source tells the program to come and the sink what it was given
-abbrev pub AnswersProgram : Option Program → Option (List ℕ) → Option (List ℕ) → Status → Type 0
-AnswersProgram program before after status =
-    IfSome program (λ whole. IfSome before (λ first. IsSomeAnd after (λ last. FinishesProgram whole status first last)))
+-- the events to come were answered, at a node that is set up so
+abbrev pub AnswersEvents : Setup → Option Events → Status → Option (List ℕ) → Option (List ℕ) → Type 0
+AnswersEvents setup events status before after = IfSome events (λ whole. Answers (set_up setup whole) status before after)

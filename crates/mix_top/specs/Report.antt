@@ -1,11 +1,11 @@
 -- The report's lines as text, and which packets they hand on.
-use Rattle.std.specs.Prelude.{ℕ, List, [], ◌∷◌, ◌++◌, codes, flat_map, Contains, Option, Some, None}
+use Rattle.std.specs.Prelude.{⊤, ℕ, List, [], ◌∷◌, ◌++◌, codes, flat_map, Contains, Option, Some, None}
 use Rattle.std.specs.Fmt.{decimal}
 use Rattle.hex.specs.Hex.{encode_lower}
 use Rattle.sphinx_unwrap.specs.declared.outcome.Out.{Out}
 use Rattle.sphinx_unwrap.specs.declared.outcome.Out.TheVariants.{Forward, Deliver, Reply, Damaged}
-use Rattle.sphinx_unwrap.specs.declared.fault.Refused.{Refused}
-use Rattle.sphinx_unwrap.specs.declared.fault.Refused.TheVariants.{Length, Version, Sealed, Commands}
+use Rattle.sphinx_unwrap.specs.declared.faults.Refused.{Refused}
+use Rattle.sphinx_unwrap.specs.declared.faults.Refused.TheVariants.{Length, Version, Sealed, Commands}
 use Rattle.lab_text.specs.WordForms.{line_of}
 use Rattle.mix_top.specs.declared.items.Item.{Item}
 use Rattle.mix_top.specs.declared.report.ReportLine.{ReportLine}
@@ -67,5 +67,5 @@ handed (line ∷ lines) = handed lines
 
 -- no pair stands twice
 abbrev pub NoneTwice : List (ℕ × List ℕ) → Type 0
-NoneTwice [] = Unit {0}
-NoneTwice (pair ∷ pairs) = (Contains pairs pair → ⊥) × NoneTwice pairs
+NoneTwice [] = ⊤
+NoneTwice (pair ∷ pairs) = ¬ Contains pairs pair × NoneTwice pairs

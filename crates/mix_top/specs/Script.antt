@@ -1,13 +1,16 @@
 -- The lines of a script of `drive`: what each says, if it is in the grammar.
-use Rattle.std.specs.Prelude.{◌≡◌, ℕ, ◌-◌, ◌/◌, ◌^◌, ◌<◌, ◌≤◌, Bool, true, false, ◌==◌, ◌||◌, if◌then◌else◌, List, [], ◌∷◌, slice_index, Option, Some, None, Result, Ok, Err, codes}
+use Rattle.std.specs.Prelude.{⊤, ℕ, ◌/◌, ◌^◌, ◌<◌, ◌≤◌, Bool, ◌||◌, if◌then◌else◌, List, [], ◌∷◌, Option, Some, None, codes}
 use Rattle.std.specs.Str.{bytes_eq}
-use Rattle.lab_text.specs.Words.{◌>>=◌, words_of, number_in, bytes_of, seed_of}
-use Rattle.lab_text.specs.WordForms.{first_number, first_of, is_comment, only_word, suite_of}
+use Rattle.mix_base.specs.Options.{◌>>=◌}
+use Rattle.packet_form.specs.Geometry.{IsWithin}
+use Rattle.epoch_keys.specs.Epochs.{InRange}
+use Rattle.lab_text.specs.Sizes.{AreSizesInRange, sizes_in}
+use Rattle.lab_text.specs.Words.{words_of, number_in, bytes_of, thirty_two, last_moment}
+use Rattle.lab_text.specs.WordForms.{first_number, first_of, only_word, said_words}
 use Rattle.mix_top.specs.declared.script.Event.{Event}
 use Rattle.mix_top.specs.declared.script.Event.TheVariants.{Recv, Peel, Claim, Send, Skip, Later}
 use Rattle.mix_top.specs.declared.script.NodeLine.{NodeLine}
-use Rattle.lab_text.specs.declared.lines.LineFault.{LineFault}
-use Rattle.lab_text.specs.declared.lines.LineFault.TheVariants.{BadLine, ReadFault, Memory}
+use Rattle.mix_top.specs.declared.script.NodeWords.{NodeWords}
 
 -- the two words there are
 abbrev pub both_words : List (List ℕ) → Option (List ℕ × List ℕ)
@@ -18,7 +21,7 @@ both_words (first ∷ second ∷ other ∷ words) = None
 
 -- a moment in milliseconds
 abbrev pub moment_of : List ℕ → Option ℕ
-moment_of word = number_in 0 (2 ^ 60 - 1) word
+moment_of word = number_in 0 last_moment word
 
 -- one of four workers, as the only word
 abbrev pub worker_of : List (List ℕ) → Option ℕ
@@ -63,48 +66,49 @@ without_packet first words =
     else if is_later first then Some Later
     else None
 
--- what a line says by its first word
-abbrev pub said_by : List ℕ → List (List ℕ) → Option Event
-said_by first words =
-    if is_comment first then Some Skip
-    else if bytes_eq first (codes "recv") then recv_of words
-    else without_packet first words
+-- what a line says by its first word and those behind it, where it says something; else it is skipped
+abbrev pub said_by : Option (List ℕ × List (List ℕ)) → Option Event
+said_by None = Some Skip
+said_by (Some parts) =
+    if bytes_eq parts.0 (codes "recv") then recv_of parts.1 else without_packet parts.0 parts.1
 
 -- what the words of a line say
 abbrev pub said_in : List (List ℕ) → Option Event
-said_in [] = Some Skip
-said_in (first ∷ words) = said_by first words
+said_in words = said_by (said_words words)
 
 -- the event of a line, in a node of so many shards; nothing that is built yet names a shard
 abbrev pub event_of : ℕ → List ℕ → Option Event
 event_of shards line = said_in (words_of line)
 
--- what the words of a node line say behind the first: suite, hops, body, shards, epoch, grace, seed
-abbrev pub node_in : List (List ℕ) → Option NodeLine
+-- what the words of a node line say behind the first: suite, hops, body, shards, epoch, grace, seed; an epoch is 4 to
+-- 2 ^ 40 milliseconds long, and a grace at most a quarter of it
+abbrev pub node_in : List (List ℕ) → Option NodeWords
 node_in words = do
-  suite ← first_of words
-  ntru ← suite_of suite.0
-  hops ← first_number 1 5 suite.1
-  body ← first_number 1 4096 hops.1
-  shards ← first_number 1 16 body.1
+  sizes ← sizes_in words
+  shards ← first_number 1 16 sizes.1
   epoch ← first_number 4 (2 ^ 40) shards.1
   grace ← first_number 0 (epoch.0 / 4) epoch.1
   word ← only_word grace.1
-  seed ← seed_of word
-  Some (record { ntru = ntru; hops = hops.0; body = body.0; shards = shards.0; epoch = epoch.0; grace = grace.0; seed = seed })
+  seed ← thirty_two word
+  Some (record { sizes = sizes.0; shards = shards.0; times = record { epoch = epoch.0; grace = grace.0 }; seed = seed })
 
 -- what a node line says
-abbrev pub node_of : List ℕ → Option NodeLine
+abbrev pub node_of : List ℕ → Option NodeWords
 node_of line = do
   first ← first_of (words_of line)
   if bytes_eq first.0 (codes "node") then node_in first.1 else None
 
--- what was read of the line of this number is what it says; it is bad exactly where it says nothing in the grammar
-abbrev pub Reads : {X : Type 0} → Option X → ℕ → Result X LineFault → Type 0
-Reads said number (Ok value) = said ≡ Some value
-Reads said number (Err (BadLine bad)) = (said ≡ None) × (bad ≡ number)
-Reads said number (Err ReadFault) = ⊥
-Reads said number (Err Memory) = Unit {0}
+-- the same, one number after the other
+abbrev pub node_line : NodeWords → NodeLine
+node_line node = record {
+  ntru = node.sizes.ntru;
+  hops = node.sizes.hops;
+  body = node.sizes.body;
+  shards = node.shards;
+  epoch = node.times.epoch;
+  grace = node.times.grace;
+  seed = node.seed;
+}
 
 -- a moment below 2 ^ 60, and one of four workers
 abbrev pub IsEventInRange : Event → Type 0
@@ -112,12 +116,19 @@ IsEventInRange (Recv moment packet) = moment < 2 ^ 60
 IsEventInRange (Peel worker) = worker < 4
 IsEventInRange (Claim worker) = worker < 4
 IsEventInRange (Send moment) = moment < 2 ^ 60
-IsEventInRange Skip = Unit {0}
-IsEventInRange Later = Unit {0}
+IsEventInRange Skip = ⊤
+IsEventInRange Later = ⊤
+
+-- the numbers of a node line's words
+pub record AreWordsInRange (node : NodeWords) : Type 0 where
+  pub sizes : AreSizesInRange node.sizes
+  pub shards : IsWithin 1 16 node.shards
+  pub times : InRange node.times
 
 -- the numbers of a node line
 pub record IsNodeInRange (node : NodeLine) : Type 0 where
-  pub hops : (1 ≤ node.hops) × (node.hops ≤ 5)
-  pub body : (1 ≤ node.body) × (node.body ≤ 4096)
-  pub epoch : (4 ≤ node.epoch) × (node.epoch ≤ 2 ^ 40)
+  pub hops : IsWithin 1 5 node.hops
+  pub body : IsWithin 1 4096 node.body
+  pub shards : IsWithin 1 16 node.shards
+  pub epoch : IsWithin 4 (2 ^ 40) node.epoch
   pub grace : node.grace ≤ node.epoch / 4

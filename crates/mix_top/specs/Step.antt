@@ -1,11 +1,9 @@
 -- What each event of a script does to a node, and which lines of the report it gives.
-use Rattle.std.specs.Prelude.{◌≡◌, ℕ, ◌+◌, ◌<◌, ◌≤◌, ◌⊎◌, List, [], ◌∷◌, ◌++◌, All, Option, Some, None, unwrap_or, Result, Ok, Err, slice_get, slice_set, slice_index_or, remove, map}
-use Rattle.sphinx_unwrap.specs.Outcome.{unwrapped}
+use Rattle.std.specs.Prelude.{◌≡◌, ℕ, ◌+◌, ◌<◌, ◌≤◌, ◌⊎◌, List, [], ◌∷◌, ◌++◌, All, Option, Some, None, option_map, unwrap_or, Result, Ok, Err, slice_get, slice_set, slice_index_or, remove}
 use Rattle.sphinx_unwrap.specs.declared.outcome.Opened.{Opened}
-use Rattle.sphinx_unwrap.specs.declared.fault.Refused.{Refused}
-use Rattle.prim_std.specs.Laboratory.{lab_scheme, lab_meaning}
-use Rattle.epoch_keys.specs.Epochs.{live_epochs, least_live}
-use Rattle.mix_top.specs.Keys.{secret_key_of, first_open}
+use Rattle.sphinx_unwrap.specs.declared.faults.Refused.{Refused}
+use Rattle.epoch_keys.specs.Epochs.{least_live}
+use Rattle.mix_top.specs.Keys.{opened_at}
 use Rattle.mix_top.specs.Book.{Book, Claims}
 use Rattle.mix_top.specs.declared.book.Claim.{Claim}
 use Rattle.mix_top.specs.declared.book.Claim.TheVariants as claims
@@ -25,15 +23,6 @@ received old moment packet = record old {
   arrivals = old.arrivals ++ record { number = old.next; at = moment; packet = packet } ∷ [];
 }
 
--- an arrived packet under the key of an epoch
-abbrev pub opened_in : Setup → Arrival → ℕ → Result Opened Refused
-opened_in setup arrival epoch = unwrapped lab_meaning setup.geometry (secret_key_of lab_scheme setup.seed epoch) arrival.packet
-
--- an arrived packet under the keys of the epochs that were live at its receipt, the current one first: the epoch whose
--- key opens it, and the packet unwrapped
-abbrev pub opened_at : Setup → Arrival → Result (ℕ × Opened) Refused
-opened_at setup arrival = first_open (map (λ epoch. (epoch, opened_in setup arrival epoch)) (live_epochs setup.times arrival.at))
-
 -- an unwrapped arrival: it is due when its delay has passed since its receipt
 abbrev pub item_of : Arrival → ℕ → Opened → Item
 item_of arrival epoch opened = record {
@@ -43,7 +32,6 @@ item_of arrival epoch opened = record {
   tag = opened.tag;
   due = arrival.at + unwrap_or opened.delay 0;
   out = opened.out;
-  packet = arrival.packet;
 }
 
 -- the worker holds the unwrapped packet, or it was refused
@@ -51,14 +39,16 @@ abbrev pub settled : NodeState → ℕ → Arrival → Result (ℕ × Opened) Re
 settled old worker arrival (Ok found) = ([], record old { workers = slice_set old.workers worker (Some (item_of arrival found.0 found.1)) })
 settled old worker arrival (Err why) = (Refuse arrival.number why ∷ [], old)
 
--- a worker that holds nothing takes the oldest arrival
-abbrev pub taken : Setup → NodeState → ℕ → List Arrival → List ReportLine × NodeState
-taken setup old worker [] = (Idle worker ∷ [], old)
-taken setup old worker (arrival ∷ others) = settled (record old { arrivals = others }) worker arrival (opened_at setup arrival)
+-- a worker that holds nothing takes the oldest arrival; there is no step where an epoch that was live at its receipt has
+-- no key
+abbrev pub taken : Setup → NodeState → ℕ → List Arrival → Option (List ReportLine × NodeState)
+taken setup old worker [] = Some (Idle worker ∷ [], old)
+taken setup old worker (arrival ∷ others) =
+    option_map (settled (record old { arrivals = others }) worker arrival) (opened_at setup arrival)
 
 -- a worker takes and unwraps the oldest arrival, where it holds nothing yet
-abbrev pub peeled_by : Setup → NodeState → ℕ → Option Item → List ReportLine × NodeState
-peeled_by setup old worker (Some item) = (Busy worker ∷ [], old)
+abbrev pub peeled_by : Setup → NodeState → ℕ → Option Item → Option (List ReportLine × NodeState)
+peeled_by setup old worker (Some item) = Some (Busy worker ∷ [], old)
 peeled_by setup old worker None = taken setup old worker old.arrivals
 
 -- what the worker holds
@@ -66,7 +56,7 @@ abbrev pub worker_at : NodeState → ℕ → Option Item
 worker_at state worker = slice_index_or state.workers worker None
 
 -- the worker's peel: its lines and the node after it
-abbrev pub peeled : Setup → NodeState → ℕ → List ReportLine × NodeState
+abbrev pub peeled : Setup → NodeState → ℕ → Option (List ReportLine × NodeState)
 peeled setup old worker = peeled_by setup old worker (worker_at old worker)
 
 -- what a claim's answer does: an accepted packet is held, each other one is gone
@@ -104,16 +94,11 @@ Sends old moment lines new =
     ⊎ ((place : ℕ) × (item : Item) × IsFirstDue old.held moment place item
     × (lines ≡ Handed item ∷ []) × (new ≡ record old { held = remove old.held place }))
 
--- one event, with the lines that it gives
+-- one event, with the lines that it gives; a script ends before a line of a form that isn't built yet
 abbrev pub Step : Setup → NodeState → Event → List ReportLine → NodeState → Type 0
 Step setup old (events.Recv moment packet) lines new = (lines ≡ []) × (new ≡ received old moment packet)
-Step setup old (events.Peel worker) lines new = peeled setup old worker ≡ (lines, new)
+Step setup old (events.Peel worker) lines new = peeled setup old worker ≡ Some (lines, new)
 Step setup old (events.Claim worker) lines new = ClaimsFor setup old worker (worker_at old worker) lines new
 Step setup old (events.Send moment) lines new = Sends old moment lines new
 Step setup old events.Skip lines new = (lines ≡ []) × (new ≡ old)
-Step setup old events.Later lines new = ⊥
-
--- a line of a form that isn't built yet
-abbrev pub IsNotBuilt : Event → Type 0
-IsNotBuilt events.Later = Unit {0}
-IsNotBuilt _ = ⊥
+Step setup old events.Later lines new = (lines ≡ []) × (new ≡ old)

@@ -33,6 +33,4 @@ pub struct Item {
     /// The moment from which it may be handed on.
     pub due: u64,
     pub out: Out,
-    /// The packet as it arrived.
-    pub packet: Bytes,
 }

@@ -1,9 +1,10 @@
 // Packets under the keys of the epochs that are live.
-ghost use Rattle.std.specs.Prelude.{◌≡◌, IfOk};
+ghost use Rattle.std.specs.Prelude.{◌≡◌, IfOk, IsSomeAnd, Some};
+ghost use Rattle.mix_base.specs.Results.{Gives};
 ghost use Rattle.prim_std.specs.Laboratory.{lab_scheme};
-ghost use Rattle.sphinx_unwrap.specs.Outcome.{Gives};
-ghost use Rattle.mix_top.specs.Keys.{secret_key_of, first_open};
-ghost use Rattle.mix_top.specs.Step.{opened_at, opened_in};
+ghost use Rattle.epoch_keys.specs.Keys.{epoch_secret_key};
+ghost use Rattle.sphinx_unwrap.specs.Faults.{cause_of};
+ghost use Rattle.mix_top.specs.Keys.{opened_at, opened_with};
 
 use crate::items::{Arrival, Setup};
 use epoch_keys::{KeyFault, epoch_pair, live};
@@ -12,9 +13,9 @@ use prim_std::LabSuite;
 use sphinx_unwrap::{Opened, Refused, UnwrapFault, unwrap};
 use std::alloc::Global;
 
-/// The laboratory secret key of an epoch under a node's seed.
+/// The laboratory secret key of an epoch under a node's seed. In the laboratory suite every epoch has one.
 fn secret_key(alloc: Global, seed: &[u8; 32], epoch: u64) -> Result<[u8; 32], Memory>
-    ensures { IfOk result (λ key. key ≡ secret_key_of lab_scheme seed.now epoch) }
+    ensures { IfOk result (λ key. epoch_secret_key lab_scheme seed.now epoch ≡ Some key) }
 {
     match epoch_pair::<LabSuite>(alloc, seed, epoch) {
         Ok(pair) => {
@@ -34,8 +35,9 @@ fn open_in(
     arrival: &Arrival,
     epoch: u64,
 ) -> Result<Opened, UnwrapFault>
-    requires { setup.now.geometry.ct ≡ 48 }
-    ensures { Gives result (opened_in setup.now arrival.now epoch) }
+    requires { setup.now.geometry.ct ≡ lab_scheme.ciphertext }
+    ensures { IsSomeAnd (epoch_secret_key lab_scheme setup.now.seed epoch) (λ key.
+        Gives cause_of result (opened_with setup.now arrival.now (epoch, key)).1) }
 {
     let secret = secret_key(alloc, &setup.seed, epoch)?;
     unwrap::<LabSuite>(alloc, &setup.geometry, &secret, arrival.packet.as_slice())
@@ -48,8 +50,8 @@ pub fn open_live(
     setup: &Setup,
     arrival: &Arrival,
 ) -> Result<(u64, Opened), UnwrapFault>
-    requires { setup.now.geometry.ct ≡ 48 }
-    ensures { Gives result (opened_at setup.now arrival.now) }
+    requires { setup.now.geometry.ct ≡ lab_scheme.ciphertext }
+    ensures { IsSomeAnd (opened_at setup.now arrival.now) (Gives cause_of result) }
 {
     let live = live(arrival.at.get(), &setup.times);
     match (open_in(alloc, setup, arrival, live.first), live.other) {

@@ -1,5 +1,5 @@
-// The program's top call over a source of bytes and a sink: a script is read, a node goes through its events,
-// and the report is written. The report's promise is a clause of `mix_command`.
+//! The program's top call over a source of bytes and a sink: a script is read, a node goes through its events,
+//! and the report is written. The promise stands in `specs/Promise.antt`, and is a clause of `mix_command`.
 #![tactic(auto)]
 
 mod book;

@@ -2,6 +2,7 @@
 // packets on when they are due. Each call is one event of a script.
 ghost use Rattle.std.specs.Prelude.{◌≡◌, ◌+◌, ◌-◌, ◌^◌, ◌<◌, ◌≤◌, ◌↔◌, [], ◌∷◌, length, take, IfOk, OnOk, IsTrue, Some, None};
 ghost use Rattle.std.specs.Option.{option_to_list};
+ghost use Rattle.prim_std.specs.Laboratory.{lab_scheme};
 ghost use Rattle.mix_top.specs.Node.{new_node};
 ghost use Rattle.mix_top.specs.Step.{received, peeled, ClaimsFor, Sends, IsFirstOf, Precedes, worker_at};
 ghost use Rattle.mix_top.specs.Step as steps;
@@ -65,9 +66,10 @@ impl Node {
     /// The worker unwraps the oldest arrival.
     pub fn peel(&mut self, alloc: Global, worker: u8) -> Result<Option<ReportLine>, Memory>
         requires worker { worker < 4 }
-        requires laboratory { self.old.setup.geometry.ct ≡ 48 }
+        requires laboratory { self.old.setup.geometry.ct ≡ lab_scheme.ciphertext }
         ensures setup { self.new.setup ≡ self.old.setup }
-        ensures ok { IfOk result (λ line. peeled self.old.setup (seen self.old) worker ≡ (option_to_list line, seen self.new)) }
+        ensures ok { IfOk result (λ line.
+            peeled self.old.setup (seen self.old) worker ≡ Some (option_to_list line, seen self.new)) }
         ensures next { self.new.next ≡ self.old.next }
     {
         let worker_index = worker as usize;
@@ -95,7 +97,8 @@ impl Node {
         requires { worker < 4 }
         ensures setup { self.new.setup ≡ self.old.setup }
         ensures next { self.new.next ≡ self.old.next }
-        ensures ok { IfOk result (λ line. ClaimsFor self.old.setup (seen self.old) worker (worker_at (seen self.old) worker) (option_to_list line) (seen self.new)) }
+        ensures ok { IfOk result (λ line. ClaimsFor self.old.setup (seen self.old) worker
+            (worker_at (seen self.old) worker) (option_to_list line) (seen self.new)) }
     {
         let Some(item) = self.workers[worker as usize].take() else {
             return Ok(Some(ReportLine::Empty { worker }));
@@ -131,7 +134,11 @@ impl Node {
 fn item_of(arrival: Arrival, epoch: u64, opened: Opened) -> Item
     ensures { result ≡ steps.item_of arrival epoch opened }
 {
-    let Arrival { number, at, packet } = arrival;
+    let Arrival {
+        number,
+        at,
+        packet: _,
+    } = arrival;
     let Opened { tag, delay, out } = opened;
     let due = at.get() + u64::from(delay.unwrap_or(0));
     Item {
@@ -141,7 +148,6 @@ fn item_of(arrival: Arrival, epoch: u64, opened: Opened) -> Item
         tag,
         due,
         out,
-        packet,
     }
 }
 

@@ -94,7 +94,7 @@ fn tail_text(alloc: Global, out: &Out) -> Result<String, AllocError>
     ensures { IfOk result (λ text. string_bytes text ≡ line_of (words_behind_tag out.now)) }
 {
     match out {
-        Out::Forward { next, packet } => two_words(alloc, next.as_slice(), packet.as_slice()),
+        Out::Forward { next, packet } => pair_text(alloc, next.as_slice(), packet.as_slice()),
         Out::Deliver {
             recipient,
             body,
@@ -111,7 +111,7 @@ fn tail_text(alloc: Global, out: &Out) -> Result<String, AllocError>
             payload,
         } => {
             let recipient = hex::encode(alloc, recipient.as_slice())?;
-            let rest = two_words(alloc, surb.as_slice(), payload.as_slice())?;
+            let rest = pair_text(alloc, surb.as_slice(), payload.as_slice())?;
             format!(in alloc; "{recipient} {rest}")
         }
         Out::Damaged { recipient } => {
@@ -122,7 +122,7 @@ fn tail_text(alloc: Global, out: &Out) -> Result<String, AllocError>
 }
 
 /// Two byte lists as the last words of a line.
-fn two_words(alloc: Global, first: &[u8], second: &[u8]) -> Result<String, AllocError>
+fn pair_text(alloc: Global, first: &[u8], second: &[u8]) -> Result<String, AllocError>
     ensures { IfOk result (λ text. string_bytes text ≡ line_of (encode_lower first.now ∷ encode_lower second.now ∷ [])) }
 {
     let first = hex::encode(alloc, first)?;

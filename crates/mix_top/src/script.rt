@@ -1,17 +1,18 @@
 // The lines of a script of `drive`: what each says. A line is read exactly where it is in the grammar.
-ghost use Rattle.std.specs.Prelude.{◌≡◌, IfOk, option_map, option_and_then, ◌<◌, ◌^◌, IfSome};
-ghost use Rattle.lab_text.specs.Words.{words_of};
-ghost use Rattle.mix_top.specs.Script.{Reads, IsEventInRange, IsNodeInRange, event_of, node_of, node_in, said_in, without_packet, recv_of, worker_of, moment_of, both_words, is_later};
+ghost use Rattle.std.specs.Prelude.{◌≡◌, ◌<◌, ◌^◌, IfOk, IfSome, option_map, option_and_then};
+ghost use Rattle.lab_text.specs.Faults.{ReadsLine, ReadsWords};
 ghost use Rattle.lab_text.specs.WordForms.{only_word};
+ghost use Rattle.lab_text.specs.Words.{words_of};
+ghost use Rattle.mix_top.specs.Script.{AreWordsInRange, IsEventInRange, IsNodeInRange, both_words, event_of, is_later, moment_of};
+ghost use Rattle.mix_top.specs.Script.{node_in, node_line, node_of, recv_of, said_in, without_packet, worker_of};
 
+use epoch_keys::Times;
 use lab_text::{
-    LineFault, next_number, next_word, one_word, read_bytes, read_number, read_seed, read_suite,
+    LAST_MOMENT, LineFault, SizesLine, WordFault, next_number, next_sizes, next_word, one_word,
+    read_32, read_bytes, read_number, said_line,
 };
-use mix_base::{Bytes, Memory};
+use mix_base::Bytes;
 use std::alloc::Global;
-
-/// The greatest moment, in milliseconds.
-const LAST_MOMENT: u64 = 1_152_921_504_606_846_975;
 
 /// The number of the last of four workers.
 const LAST_WORKER: u64 = 3;
@@ -51,46 +52,61 @@ pub struct NodeLine {
     pub seed: [u8; 32],
 }
 
+/// What the words of a node line say, with sizes and times that a node can be made of.
+#[derive(Clone, Copy)]
+pub struct NodeWords {
+    pub sizes: SizesLine,
+    pub shards: u8,
+    pub times: Times,
+    pub seed: [u8; 32],
+}
+
 /// What a line says behind the node line, in a node of so many shards; `number` is the line's.
 pub fn read_event(alloc: Global, line: &[u8], number: u64, _shards: u8) -> Result<Event, LineFault>
-    ensures exact { Reads (event_of _shards line.now) number result }
+    ensures exact { ReadsLine (event_of _shards line.now) number result }
     ensures in_range { IfOk result IsEventInRange }
 {
     match read_words(alloc, line) {
-        Ok(Some(event)) => Ok(event),
-        Ok(None) => Err(LineFault::BadLine { number }),
-        Err(Memory) => Err(LineFault::Memory),
+        Ok(event) => Ok(event),
+        Err(WordFault::Outside) => Err(LineFault::BadLine { number }),
+        Err(WordFault::Memory) => Err(LineFault::Memory),
     }
 }
 
 /// What the node line says; `number` is the line's.
 pub fn read_node(line: &[u8], number: u64) -> Result<NodeLine, LineFault>
-    ensures exact { Reads (node_of line.now) number result }
+    ensures exact { ReadsLine (option_map node_line (node_of line.now)) number result }
     ensures in_range { IfOk result IsNodeInRange }
 {
-    match node(line) {
-        Some(node) => Ok(node),
+    match node_words(line) {
+        Some(node) => Ok(NodeLine {
+            ntru: node.sizes.ntru,
+            hops: node.sizes.hops,
+            body: node.sizes.body,
+            shards: node.shards,
+            epoch: node.times.epoch(),
+            grace: node.times.grace(),
+            seed: node.seed,
+        }),
         None => Err(LineFault::BadLine { number }),
     }
 }
 
-fn read_words(alloc: Global, line: &[u8]) -> Result<Option<Event>, Memory>
-    ensures exact { IfOk result (λ event. event ≡ said_in (words_of line.now)) }
-    ensures in_range { IfOk result (λ event. IfSome event IsEventInRange) }
+// What the words of a line say.
+fn read_words(alloc: Global, line: &[u8]) -> Result<Event, WordFault>
+    ensures exact { ReadsWords (said_in (words_of line.now)) result }
+    ensures in_range { IfOk result IsEventInRange }
 {
-    let Some((first, rest)) = next_word(line) else {
-        return Ok(Some(Event::Skip));
+    let Some((first, rest)) = said_line(line) else {
+        return Ok(Event::Skip);
     };
-    if first[0] == b'#' {
-        return Ok(Some(Event::Skip));
-    }
     if first == b"recv".as_slice() {
         return recv(alloc, rest);
     }
-    Ok(without_packet_event(first, rest))
+    without_packet_event(first, rest).ok_or(WordFault::Outside)
 }
 
-// What a line says by its first word, where it is no comment and no packet.
+// What a line without a packet says by its first word.
 fn without_packet_event(first: &[u8], rest: &[u8]) -> Option<Event>
     ensures exact { result ≡ without_packet first.now (words_of rest.now) }
     ensures in_range { IfSome result IsEventInRange }
@@ -115,23 +131,17 @@ fn without_packet_event(first: &[u8], rest: &[u8]) -> Option<Event>
 }
 
 // A packet and the moment at which it arrives.
-fn recv(alloc: Global, rest: &[u8]) -> Result<Option<Event>, Memory>
-    ensures exact { IfOk result (λ event. event ≡ recv_of (words_of rest.now)) }
-    ensures in_range { IfOk result (λ event. IfSome event IsEventInRange) }
+fn recv(alloc: Global, rest: &[u8]) -> Result<Event, WordFault>
+    ensures exact { ReadsWords (recv_of (words_of rest.now)) result }
+    ensures in_range { IfOk result IsEventInRange }
 {
-    let Some((moment, packet)) = two_words(rest) else {
-        return Ok(None);
-    };
-    let Some(moment) = read_number(moment, 0, LAST_MOMENT) else {
-        return Ok(None);
-    };
-    match read_bytes(alloc, packet)? {
-        Some(packet) => Ok(Some(Event::Recv {
-            moment,
-            packet: Bytes::of(packet),
-        })),
-        None => Ok(None),
-    }
+    let (moment, packet) = only_two(rest).ok_or(WordFault::Outside)?;
+    let moment = read_number(moment, 0, LAST_MOMENT).ok_or(WordFault::Outside)?;
+    let packet = read_bytes(alloc, packet)?;
+    Ok(Event::Recv {
+        moment,
+        packet: Bytes::of(packet),
+    })
 }
 
 // A worker as the only word.
@@ -159,7 +169,7 @@ fn names_later(first: &[u8]) -> bool
 }
 
 // The only two words.
-fn two_words(rest: &[u8]) -> Option<(&[u8], &[u8])>
+fn only_two(rest: &[u8]) -> Option<(&[u8], &[u8])>
     ensures { option_map (λ both. (both.0.now, both.1.now)) result ≡ both_words (words_of rest.now) }
 {
     let (first, others) = next_word(rest)?;
@@ -167,9 +177,10 @@ fn two_words(rest: &[u8]) -> Option<(&[u8], &[u8])>
     Some((first, second))
 }
 
-fn node(line: &[u8]) -> Option<NodeLine>
+/// What the node line says, with sizes and times that a node can be made of.
+pub fn node_words(line: &[u8]) -> Option<NodeWords>
     ensures exact { result ≡ node_of line.now }
-    ensures in_range { IfSome result IsNodeInRange }
+    ensures in_range { IfSome result AreWordsInRange }
 {
     let (first, rest) = next_word(line)?;
     if first == b"node".as_slice() {
@@ -180,25 +191,20 @@ fn node(line: &[u8]) -> Option<NodeLine>
 }
 
 // What the words of a node line say behind the first.
-fn node_fields(rest: &[u8]) -> Option<NodeLine>
+fn node_fields(rest: &[u8]) -> Option<NodeWords>
     ensures exact { result ≡ node_in (words_of rest.now) }
-    ensures in_range { IfSome result IsNodeInRange }
+    ensures in_range { IfSome result AreWordsInRange }
 {
-    let (name, rest) = next_word(rest)?;
-    let ntru = read_suite(name)?;
-    let (hops, rest) = next_number(rest, 1, 5)?;
-    let (body, rest) = next_number(rest, 1, 4096)?;
+    let (sizes, rest) = next_sizes(rest)?;
     let (shards, rest) = next_number(rest, 1, 16)?;
-    let (epoch, rest) = next_number(rest, 4, 1_099_511_627_776)?;
+    let (epoch, rest) = next_number(rest, 4, 1 << 40)?;
     let (grace, rest) = next_number(rest, 0, epoch / 4)?;
-    let seed = read_seed(one_word(rest)?)?;
-    Some(NodeLine {
-        ntru,
-        hops: hops as usize,
-        body: body as usize,
+    let times = Times::new(epoch, grace).ok()?;
+    let seed = read_32(one_word(rest)?)?;
+    Some(NodeWords {
+        sizes,
         shards: shards as u8,
-        epoch,
-        grace,
+        times,
         seed,
     })
 }

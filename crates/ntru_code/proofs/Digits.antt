@@ -3,7 +3,8 @@ use Rattle.std.proofs.Common.{◌≡◌, ℕ, zero, suc, ◌+◌, ◌-◌, ◌*�
 use Rattle.std.proofs.lemmas.Nat.{mod-mul-add, div-mul-add, div-add-mod', mul-add-lt, mod_below, div_below}
 use Rattle.std.proofs.Math.Nat.{pow-suc, pow-zero, pow-le-pow_right}
 use Rattle.ntru_code.specs.declared.packing.Side.{Side}
-use Rattle.ntru_code.specs.Packing.{number, digit, last_of, group_number, translated, HasRoom}
+use Rattle.ntru_code.specs.Packing.{number, digit, last_of, group_number, translated}
+use Rattle.ntru_code.specs.Sides.{HasRoom}
 
 low : (base f n : ℕ) → f < base → (f + base * n) % base ≡ f
 low base f n below = let e : f + base * n ≡ n * base + f = omega arith in ap (λ x. x % base) e ∙ mod-mul-add n base f below
@@ -68,6 +69,21 @@ place_in_group side place some inside = omega (arith, mod_below place side.group
 pub group_in_count : (side : Side) (place : ℕ) → place < side.count → place / side.group * side.group < side.count
 group_in_count side place inside = omega (arith, div-add-mod' place side.group)
 
+-- the digits that one side has of a group's number make up that number
+pub same_number : (from to : Side) (f g : ℕ → ℕ) → 0 < to.group
+    → ((k : ℕ) → k < to.count → g k ≡ translated from to f k)
+    → (group : ℕ) → group * to.group < to.count → group_number to g group ≡ group_number from f group
+unfolding translated group_number
+same_number from to f g some same group here =
+    let value : ℕ = number from.base f (group * from.group) (last_of from group) in
+    let digits : (j : ℕ) → j ≤ last_of to group → g (group * to.group + j) ≡ digit to.base (last_of to group) j value =
+    λ j within.
+    let short : j < to.group = omega (arith, last_in_group to group some) in
+    same (group * to.group + j) (omega (arith, last_in_count to group some here))
+    ∙ ap (λ h. digit to.base (last_of to h) ((group * to.group + j) % to.group) (number from.base f (h * from.group) (last_of from h))) (div-mul-add group to.group j short)
+    ∙ ap (λ r. digit to.base (last_of to group) r value) (mod-mul-add group to.group j short) in
+    number_of_digits to.base g (last_of to group) (group * to.group) value digits
+
 -- there and back: what was packed is unpacked as it was, in either direction
 pub back : (from to : Side) (f g : ℕ → ℕ) → 0 < from.group → 0 < to.group
     → ((k : ℕ) → f k < from.base)
@@ -77,15 +93,8 @@ pub back : (from to : Side) (f g : ℕ → ℕ) → 0 < from.group → 0 < to.gr
 unfolding translated group_number
 back from to f g some_from some_to below same groups place inside =
     let group : ℕ = place / from.group in
-    let value : ℕ = number from.base f (group * from.group) (last_of from group) in
     let here : group * to.group < to.count = groups group (group_in_count from place inside) in
-    let digits : (j : ℕ) → j ≤ last_of to group → g (group * to.group + j) ≡ digit to.base (last_of to group) j value =
-    λ j within.
-    let short : j < to.group = omega (arith, last_in_group to group some_to) in
-    same (group * to.group + j) (omega (arith, last_in_count to group some_to here))
-    ∙ ap (λ h. digit to.base (last_of to h) ((group * to.group + j) % to.group) (number from.base f (h * from.group) (last_of from h))) (div-mul-add group to.group j short)
-    ∙ ap (λ r. digit to.base (last_of to group) r value) (mod-mul-add group to.group j short) in
-    ap (digit from.base (last_of from group) (place % from.group)) (number_of_digits to.base g (last_of to group) (group * to.group) value digits)
+    ap (digit from.base (last_of from group) (place % from.group)) (same_number from to f g some_to same group here)
     ∙ digit_of_number from.base f below (last_of from group) (place % from.group) (group * from.group) (place_in_group from place some_from inside)
     ∙ ap f (div-add-mod' place from.group)
 

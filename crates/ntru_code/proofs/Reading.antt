@@ -1,19 +1,19 @@
 -- What a reader's answer says, from its values and causes.
-use Rattle.std.proofs.Common.{◌≡◌, ℕ, suc, ◌*◌, ◌<◌, ℤ, pos, ◌-ℤ◌, List, [], ◌∷◌, length, get_or, refl, sym, ap, ◌∙◌, subst, arith, inl, inr, Result, Ok, Err}
-use Rattle.std.specs.Prelude.{IfOk, OnOk, IfErr, MatchResult}
+use Rattle.std.proofs.Common.{◌≡◌, ℕ, ◌*◌, ◌<◌, ℤ, pos, ◌-ℤ◌, List, length, get_or, sym, ap, ◌∙◌, subst, arith, inl, inr, Result, Ok, Err}
+use Rattle.std.specs.Prelude.{IfOk, OnOk, IfErr}
 use Rattle.std.proofs.lemmas.Bool.{cases_lt}
 use Rattle.std.proofs.lemmas.Int.{ints}
-use Rattle.ntru_ring.specs.Centring.{IsWithin, centred}
+use Rattle.ntru_ring.specs.Centring.{IsWithin}
 use Rattle.ntru_ring.specs.Polynomials.{coefficient, reduced}
-use Rattle.ntru_ring.proofs.Residues.{centred_is}
-use Rattle.ntru_ring.proofs.Lists.{zero_within}
+use Rattle.ntru_ring.proofs.Lists.{reduced_same, zero_within}
 use Rattle.ntru_ring.proofs.Ring.{coefficient_at, coefficient_behind}
-use Rattle.ntru_code.specs.Forms.{IsSound, CanSpell, AllInRange, AllMultiples, field_in, bound_at, spelling, values, small, rounded}
-use Rattle.ntru_code.specs.Causes.{IsCause, OnlyMemory}
+use Rattle.ntru_code.specs.Sides.{IsSound}
+use Rattle.ntru_code.specs.Forms.{AllInRange, AllMultiples, field_in, bound_at, spelling, values, small, rounded}
+use Rattle.ntru_code.specs.Faults.{IsCause, OnlyMemory, ReadsBack}
 use Rattle.ntru_code.specs.declared.forms.Form.{Form}
 use Rattle.ntru_code.specs.declared.faults.CodeFault.{CodeFault}
 use Rattle.ntru_code.specs.declared.faults.CodeFault.TheVariants.{Range, Memory}
-use Rattle.ntru_code.proofs.Spelled.{found_is_spelled, spelled_in_range, spelled_values, bound_inside, values_are_multiples}
+use Rattle.ntru_code.proofs.Spelled.{CanSpell, found_is_spelled, spelled_in_range, spelled_values, bound_inside, values_are_multiples}
 
 -- the first 761 fields, and one more where there is one
 pub all_in_range : (form : Form) (bytes : List ℕ) → IsSound form → ((k : ℕ) → k < 761 → field_in form bytes k < bound_at form k) → (761 < form.fields.count → field_in form bytes 761 < bound_at form 761) → AllInRange form bytes
@@ -42,21 +42,10 @@ cause_is_memory form bytes p sound can spelled Memory first = tt
 pub values_are : (form : Form) (bytes : List ℕ) (p : List ℤ) → IsSound form → CanSpell form p → bytes ≡ spelling form p → values form bytes ≡ p
 values_are form bytes p sound can spelled = ap (values form) spelled ∙ spelled_values form p sound can
 
-pub only : (form : Form) (bytes : List ℕ) (p : List ℤ) → IsSound form → CanSpell form p → bytes ≡ spelling form p → (r : Result (List ℤ) CodeFault)
-    → IfOk r (λ q. q ≡ values form bytes) → IfErr r (IsCause form bytes) → MatchResult r (λ q. q ≡ p) OnlyMemory
-only form bytes p sound can spelled (Ok q) value first = value ∙ values_are form bytes p sound can spelled
-only form bytes p sound can spelled (Err e) value first = cause_is_memory form bytes p sound can spelled e first
-
--- the values of the small form are residues modulo 3 already
-residue_same : (z : ℤ) → IsWithin 1 z → centred 3 z ≡ z
-residue_same z within = centred_is 1 z (pos 0) z within (omega (arith, ints))
-
-reduced_same : (p : List ℤ) → ((k : ℕ) → IsWithin 1 (coefficient p k)) → reduced p ≡ p
-reduced_same [] within = refl
-reduced_same (x ∷ xs) within =
-    let head : centred 3 x ≡ x = residue_same x (within 0) in
-    let tail : reduced xs ≡ xs = reduced_same xs (λ k. within (suc k)) in
-    cc
+pub only : (form : Form) (bytes : List ℕ) (p : List ℤ) → IsSound form → CanSpell form p → (r : Result (List ℤ) CodeFault)
+    → IfOk r (λ q. q ≡ values form bytes) → IfErr r (IsCause form bytes) → ReadsBack form bytes p r
+only form bytes p sound can (Ok q) value first = λ spelled. value ∙ values_are form bytes p sound can spelled
+only form bytes p sound can (Err e) value first = λ spelled. cause_is_memory form bytes p sound can spelled e first
 
 small_within : (bytes : List ℕ) → AllInRange small bytes → (k : ℕ) → IsWithin 1 (coefficient (values small bytes) k)
 unfolding values
@@ -69,6 +58,7 @@ small_within bytes in_range k =
       | inr late ↦ subst (IsWithin 1) (sym (coefficient_behind 761 at k late)) (zero_within 1)
     ]
 
+-- the values of the small form are residues modulo 3 already
 pub small_reduced : (bytes : List ℕ) → AllInRange small bytes → reduced (values small bytes) ≡ values small bytes
 small_reduced bytes in_range = reduced_same (values small bytes) (small_within bytes in_range)
 

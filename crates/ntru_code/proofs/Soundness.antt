@@ -1,8 +1,9 @@
 -- The three forms are sound.
 use Rattle.std.proofs.Common.{◌≡◌, ◌-◌, ◌*◌, min, refl, arith, inl, inr, lit≤, lit<}
 use Rattle.std.proofs.lemmas.Bool.{cases_lt}
-use Rattle.ntru_code.specs.Packing.{last_of, HasRoom}
-use Rattle.ntru_code.specs.Forms.{IsSound, small, whole, rounded}
+use Rattle.ntru_code.specs.Packing.{last_of}
+use Rattle.ntru_code.specs.Forms.{small, whole, rounded}
+use Rattle.ntru_code.specs.Sides.{HasRoom, IsSound}
 
 small_room : HasRoom small.fields small.bytes
 unfolding last_of

@@ -8,9 +8,16 @@ use Rattle.std.proofs.lemmas.List.FromFn.{fill_by_all, get_or-map-range_with_len
 use Rattle.ntru_ring.specs.Polynomials.{IsPolynomial, coefficient, coefficients}
 use Rattle.ntru_ring.proofs.Ring.{coefficient_at, coefficient_behind}
 use Rattle.ntru_code.specs.Packing.{translated}
-use Rattle.ntru_code.specs.Forms.{IsSound, CanSpell, AllInRange, AllMultiples, field, field_in, bound_at, spelling, values, small, whole, rounded}
+use Rattle.ntru_code.specs.Sides.{IsSound}
+use Rattle.ntru_code.specs.Forms.{AllInRange, AllMultiples, field, field_in, bound_at, spelling, values, small, whole, rounded}
 use Rattle.ntru_code.specs.declared.forms.Form.{Form}
 use Rattle.ntru_code.proofs.Digits.{back}
+
+-- a polynomial that the form can spell: each field is in range, and stands for its coefficient
+pub record CanSpell (form : Form) (polynomial : List ℤ) : Type 0 where
+  pub length_is : length polynomial ≡ 761
+  pub below : (place : ℕ) → place < 761 → field form polynomial place < form.bound
+  pub stands : (place : ℕ) → place < 761 → pos (form.step * field form polynomial place) -ℤ pos form.lowest ≡ coefficient polynomial place
 
 -- a field of a coefficient, and behind the last
 field_of : (form : Form) (p : List ℤ) (place : ℕ) → place < 761 → field form p place ≡ unsigned_abs (coefficient p place +ℤ pos form.lowest) / form.step

@@ -1,21 +1,39 @@
 -- The three byte forms of a polynomial: each coefficient is a field, and the fields are packed.
-use Rattle.std.specs.Prelude.{◌≡◌, ℕ, ◌+◌, ◌*◌, ◌/◌, ◌<◌, ◌≤◌, ℤ, pos, ◌+ℤ◌, ◌-ℤ◌, ◌*ℤ◌, List, length, map, unsigned_abs, nat_lt, slice_index, if◌then◌else◌}
+use Rattle.std.specs.Prelude.{◌≡◌, ℕ, ◌*◌, ◌/◌, ◌<◌, ◌≤◌, ℤ, pos, ◌+ℤ◌, ◌-ℤ◌, ◌*ℤ◌, List, map, unsigned_abs, nat_lt, slice_index, if◌then◌else◌}
 use Rattle.std.specs.List.{range_with_len}
 use Rattle.ntru_ring.specs.Polynomials.{coefficient, coefficients}
-use Rattle.ntru_code.specs.Packing.{translated, Agree, HasRoom}
+use Rattle.ntru_code.specs.Packing.{translated}
 use Rattle.ntru_code.specs.declared.forms.Form.{Form}
 
 -- c + 1 below 3, four fields in a byte, and a field that is always 0 for the bits that are left over
 abbrev pub small : Form
-small = record { fields = record { base = 4; group = 4; count = 762 }; bytes = record { base = 256; group = 1; count = 191 }; bound = 3; step = 1; lowest = 1 }
+small = record {
+  fields = record { base = 4; group = 4; count = 762 };
+  bytes = record { base = 256; group = 1; count = 191 };
+  bound = 3;
+  step = 1;
+  lowest = 1;
+}
 
 -- c + 2295 below 4591, five fields in eight bytes, and the last one in two
 abbrev pub whole : Form
-whole = record { fields = record { base = 6144; group = 5; count = 761 }; bytes = record { base = 256; group = 8; count = 1218 }; bound = 4591; step = 1; lowest = 2295 }
+whole = record {
+  fields = record { base = 6144; group = 5; count = 761 };
+  bytes = record { base = 256; group = 8; count = 1218 };
+  bound = 4591;
+  step = 1;
+  lowest = 2295;
+}
 
 -- (c + 2295) / 3 below 1531, three fields in four bytes, and the last two in three
 abbrev pub rounded : Form
-rounded = record { fields = record { base = 1536; group = 3; count = 761 }; bytes = record { base = 256; group = 4; count = 1015 }; bound = 1531; step = 3; lowest = 2295 }
+rounded = record {
+  fields = record { base = 1536; group = 3; count = 761 };
+  bytes = record { base = 256; group = 4; count = 1015 };
+  bound = 1531;
+  step = 3;
+  lowest = 2295;
+}
 
 -- the field of the coefficient at a place: how many steps it lies above the lowest
 unfoldable pub field : Form → List ℤ → ℕ → ℕ
@@ -24,7 +42,8 @@ field form polynomial place =
 
 -- the bytes of a polynomial
 unfoldable pub spelling : Form → List ℤ → List ℕ
-spelling form polynomial = map (translated form.fields form.bytes (field form polynomial)) (range_with_len 0 form.bytes.count)
+spelling form polynomial =
+    map (translated form.fields form.bytes (field form polynomial)) (range_with_len 0 form.bytes.count)
 
 -- the field at a place of some bytes
 unfoldable pub field_in : Form → List ℕ → ℕ → ℕ
@@ -47,29 +66,6 @@ pub record IsFirstOutOfRange (form : Form) (bytes : List ℕ) (place : ℕ) : Ty
 -- the polynomial of some bytes: each field is so many steps above the lowest coefficient
 unfoldable pub values : Form → List ℕ → List ℤ
 values form bytes = coefficients 761 (λ place. pos (form.step * field_in form bytes place) -ℤ pos form.lowest)
-
--- what writing and reading by a form rest on: the sides agree both ways, each group's number fits its bytes, and
--- the fields in range stand for coefficients in range
-pub record IsSound (form : Form) : Type 0 where
-  pub out : Agree form.fields form.bytes
-  pub back : Agree form.bytes form.fields
-  pub room : HasRoom form.fields form.bytes
-  pub byte_base : form.bytes.base ≡ 256
-  pub least_count : 761 ≤ form.fields.count
-  pub most_count : form.fields.count ≤ 762
-  pub some_step : 0 < form.step
-  pub steps : form.step < 4
-  pub small_base : form.bound ≤ form.fields.base
-  pub more_than_one : 1 < form.fields.base
-  pub low : form.lowest ≤ 2295
-  pub high : form.step * form.bound ≤ form.lowest + 2295 + form.step
-  pub bound : form.bound ≤ 4591
-
--- a polynomial that the form can spell: each field is in range, and stands for its coefficient
-pub record CanSpell (form : Form) (polynomial : List ℤ) : Type 0 where
-  pub length_is : length polynomial ≡ 761
-  pub below : (place : ℕ) → place < 761 → field form polynomial place < form.bound
-  pub stands : (place : ℕ) → place < 761 → pos (form.step * field form polynomial place) -ℤ pos form.lowest ≡ coefficient polynomial place
 
 -- every coefficient is a multiple of 3
 abbrev pub AllMultiples : List ℤ → Type 0

@@ -1,6 +1,6 @@
 -- Packing by base: digits are taken in groups, and each group is one number, of which both sides have their own
 -- digits. So fields become bytes, and bytes become fields, by one rule.
-use Rattle.std.specs.Prelude.{ℕ, zero, suc, ◌+◌, ◌-◌, ◌*◌, ◌/◌, ◌%◌, ◌^◌, ◌<◌, ◌≤◌, min}
+use Rattle.std.specs.Prelude.{ℕ, zero, suc, ◌+◌, ◌-◌, ◌*◌, ◌/◌, ◌%◌, min}
 use Rattle.ntru_code.specs.declared.packing.Side.{Side}
 
 -- the number whose digits stand from a place on, the lowest first; the last digit is that many places further
@@ -26,15 +26,3 @@ group_number side digits group = number side.base digits (group * side.group) (l
 unfoldable pub translated : Side → Side → (ℕ → ℕ) → ℕ → ℕ
 translated from to digits place =
     digit to.base (last_of to (place / to.group)) (place % to.group) (group_number from digits (place / to.group))
-
--- both sides have the same groups, and the number of each fits 64 bits
-pub record Agree (from to : Side) : Type 0 where
-  pub digits_from : 0 < from.group
-  pub digits_to : 0 < to.group
-  pub base : 0 < to.base
-  pub same_groups : (group : ℕ) → group * to.group < to.count → group * from.group < from.count
-  pub fits : from.base ^ from.group ≤ 2 ^ 64
-
--- the number of each group has no more digits on the other side than it has room for
-abbrev pub HasRoom : Side → Side → Type 0
-HasRoom from to = (group : ℕ) → group * to.group < to.count → from.base ^ suc (last_of from group) ≤ to.base ^ suc (last_of to group)

@@ -1,9 +1,10 @@
 // Reading: the fields of some bytes, and their polynomial.
-ghost use Rattle.std.specs.Prelude.{◌≡◌, ℕ, ◌+◌, ◌-◌, ◌*◌, ◌<◌, ◌≤◌, ℤ, pos, ◌-ℤ◌, List, length, slice_index, IfOk, OnOk, IfErr, OnErr, MatchResult, Err};
+ghost use Rattle.std.specs.Prelude.{◌≡◌, ℕ, ◌-◌, ◌*◌, ◌<◌, ◌≤◌, ℤ, pos, ◌-ℤ◌, List, length, slice_index, IfOk, OnOk, IfErr, OnErr, Err};
 ghost use Rattle.ntru_ring.specs.Centring.{IsWithin};
-ghost use Rattle.ntru_ring.specs.Polynomials.{IsPolynomial, coefficients};
-ghost use Rattle.ntru_code.specs.Forms.{AllInRange, IsFirstOutOfRange, AllMultiples, IsSound, bound_at, field_in, rounded, small, spelling, values, whole};
-ghost use Rattle.ntru_code.specs.Causes.{IsCause, OnlyMemory};
+ghost use Rattle.ntru_ring.specs.Polynomials.{IsPolynomial};
+ghost use Rattle.ntru_code.specs.Forms.{AllInRange, AllMultiples, bound_at, field_in, rounded, small, spelling, values, whole};
+ghost use Rattle.ntru_code.specs.Faults.{IsCause, ReadsBack};
+ghost use Rattle.ntru_code.specs.Sides.{IsSound};
 
 use crate::faults::{CodeFault, Range};
 use crate::forms::{Form, ROUNDED, SMALL, WHOLE};
@@ -17,7 +18,7 @@ pub fn decode_small(alloc: Global, bytes: &[u8]) -> Result<Poly3, CodeFault>
     // What is read is spelled so.
     ensures found { IfOk result (λ p. bytes.now ≡ spelling small p) }
     // What is spelled so is read, unless memory runs out.
-    ensures only { (p : List ℤ) → IsPolynomial 1 p → bytes.now ≡ spelling small p → MatchResult result (λ r. r ≡ p) OnlyMemory }
+    ensures only { (p : List ℤ) → IsPolynomial 1 p → ReadsBack small bytes.now p result }
     // Which field is refused.
     ensures in_range { OnOk result (AllInRange small bytes.now) }
     ensures first { IfErr result (IsCause small bytes.now) }
@@ -33,7 +34,7 @@ pub fn decode_q(alloc: Global, bytes: &[u8]) -> Result<PolyQ, CodeFault>
     // What is read is spelled so.
     ensures found { IfOk result (λ p. bytes.now ≡ spelling whole p) }
     // What is spelled so is read, unless memory runs out.
-    ensures only { (p : List ℤ) → IsPolynomial 2295 p → bytes.now ≡ spelling whole p → MatchResult result (λ r. r ≡ p) OnlyMemory }
+    ensures only { (p : List ℤ) → IsPolynomial 2295 p → ReadsBack whole bytes.now p result }
     // Which field is refused.
     ensures in_range { OnOk result (AllInRange whole bytes.now) }
     ensures first { IfErr result (IsCause whole bytes.now) }
@@ -48,7 +49,8 @@ pub fn decode_rounded(alloc: Global, bytes: &[u8]) -> Result<PolyQ, CodeFault>
     ensures found { IfOk result (λ p. bytes.now ≡ spelling rounded p) }
     ensures multiples { IfOk result AllMultiples }
     // What is spelled so is read, unless memory runs out.
-    ensures only { (p : List ℤ) → IsPolynomial 2295 p → AllMultiples p → bytes.now ≡ spelling rounded p → MatchResult result (λ r. r ≡ p) OnlyMemory }
+    ensures only { (p : List ℤ) → IsPolynomial 2295 p → AllMultiples p
+        → ReadsBack rounded bytes.now p result }
     // Which field is refused.
     ensures in_range { OnOk result (AllInRange rounded bytes.now) }
     ensures first { IfErr result (IsCause rounded bytes.now) }
@@ -73,7 +75,8 @@ fn decode(alloc: Global, form: &Form, bytes: &[u8]) -> Result<PolyQ, CodeFault>
 fn check_rest(form: &Form, bytes: &[u8]) -> Result<(), Range>
     requires sound { IsSound form.now }
     requires length { length bytes.now ≡ form.now.bytes.count }
-    ensures below { OnOk result (761 < form.now.fields.count → field_in form.now bytes.now 761 < bound_at form.now 761) }
+    ensures below { OnOk result (761 < form.now.fields.count
+        → field_in form.now bytes.now 761 < bound_at form.now 761) }
     ensures index { IfErr result (λ range. range.index ≡ 761) }
     ensures inside { OnErr result (761 < form.now.fields.count) }
     ensures out { OnErr result (bound_at form.now 761 ≤ field_in form.now bytes.now 761) }
@@ -90,7 +93,8 @@ fn read_coefficients(alloc: Global, form: &Form, bytes: &[u8]) -> Result<Vec<i16
     requires length { length bytes.now ≡ form.now.bytes.count }
     ensures value { IfOk result (λ list. list.items ≡ values form.now bytes.now) }
     ensures polynomial { IfOk result (λ list. IsPolynomial 2295 list.items) }
-    ensures below { OnOk result ((place : ℕ) → place < 761 → field_in form.now bytes.now place < bound_at form.now place) }
+    ensures below { OnOk result ((place : ℕ) → place < 761
+        → field_in form.now bytes.now place < bound_at form.now place) }
     ensures first { IfErr result (IsCause form.now bytes.now) }
 {
     let mut list = Vec::with_capacity(alloc, 761)?;
@@ -134,7 +138,7 @@ fn field_at(form: &Form, bytes: &[u8], place: usize) -> Result<u64, Range>
     ensures value { IfOk result (λ field. field ≡ field_in form.now bytes.now place) }
     ensures below { IfOk result (λ field. field < bound_at form.now place) }
     ensures index { IfErr result (λ range. range.index ≡ place) }
-    ensures out { IfErr result (λ _. bound_at form.now place ≤ field_in form.now bytes.now place) }
+    ensures out { OnErr result (bound_at form.now place ≤ field_in form.now bytes.now place) }
 {
     let field = translated(&form.bytes, &form.fields, &ByteDigits(bytes), place);
     if field < bound_at(form, place) {

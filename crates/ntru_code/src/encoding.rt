@@ -1,9 +1,10 @@
 // Writing: the fields of a polynomial, and their bytes.
-ghost use Rattle.std.specs.Prelude.{◌≡◌, ℕ, ◌+◌, ◌*◌, ◌<◌, ◌≤◌, ℤ, pos, ◌*ℤ◌, map, length};
+ghost use Rattle.std.specs.Prelude.{◌≡◌, ℕ, ◌+◌, ◌<◌, map, length};
 ghost use Rattle.std.specs.List.{range_with_len};
-ghost use Rattle.ntru_ring.specs.Polynomials.{coefficient};
 ghost use Rattle.ntru_code.specs.Packing.{translated};
-ghost use Rattle.ntru_code.specs.Forms.{AllMultiples, IsSound, field, rounded, small, spelling, whole};
+ghost use Rattle.ntru_code.specs.Forms.{AllMultiples, field, rounded, small, spelling, whole};
+ghost use Rattle.ntru_code.specs.Groups.{AreRoundedGroups, AreSmallGroups, AreWholeGroups};
+ghost use Rattle.ntru_code.specs.Sides.{IsSound};
 
 use crate::forms::{Form, ROUNDED, SMALL, WHOLE};
 use crate::packing::{Digits, translated};
@@ -12,9 +13,11 @@ use ntru_ring::{Poly3, PolyQ};
 /// Writes the small form, 191 bytes: each coefficient plus 1 in two bits, four in a byte, low bits first.
 pub fn encode_small(a: &Poly3, out: &mut [u8])
     requires { length out.old ≡ 191 }
-    ensures { out.new ≡ spelling small a.now }
+    ensures bytes { out.new ≡ spelling small a.now }
+    // Each group of fields is one number, of which the bytes are the little-endian spelling.
+    ensures groups { AreSmallGroups a.now out.new }
 {
-    let _ = a.at(0);
+    a.known_in_range();
     encode(&SMALL, &SmallFields(a), out)
 }
 
@@ -22,9 +25,11 @@ pub fn encode_small(a: &Poly3, out: &mut [u8])
 /// eight bytes, and the last one in two; lowest digit and lowest byte first.
 pub fn encode_q(a: &PolyQ, out: &mut [u8])
     requires { length out.old ≡ 1218 }
-    ensures { out.new ≡ spelling whole a.now }
+    ensures bytes { out.new ≡ spelling whole a.now }
+    // Each group of fields is one number, of which the bytes are the little-endian spelling.
+    ensures groups { AreWholeGroups a.now out.new }
 {
-    let _ = a.at(0);
+    a.known_in_range();
     encode(&WHOLE, &WholeFields(a), out)
 }
 
@@ -34,9 +39,11 @@ pub fn encode_q(a: &PolyQ, out: &mut [u8])
 pub fn encode_rounded(a: &PolyQ, out: &mut [u8])
     requires multiples { AllMultiples a.now }
     requires length { length out.old ≡ 1015 }
-    ensures { out.new ≡ spelling rounded a.now }
+    ensures bytes { out.new ≡ spelling rounded a.now }
+    // Each group of fields is one number, of which the bytes are the little-endian spelling.
+    ensures groups { AreRoundedGroups a.now out.new }
 {
-    let _ = a.at(0);
+    a.known_in_range();
     encode(&ROUNDED, &RoundedFields(a), out)
 }
 
@@ -46,7 +53,8 @@ fn encode<D: Digits>(form: &Form, fields: &D, out: &mut [u8])
     requires count { D.count fields.now ≡ form.now.fields.count }
     requires small { (k : ℕ) → D.at fields.now k < form.now.fields.base }
     requires length { length out.old ≡ form.now.bytes.count }
-    ensures { out.new ≡ map (translated form.now.fields form.now.bytes (D.at fields.now)) (range_with_len 0 form.now.bytes.count) }
+    ensures { let byte = translated form.now.fields form.now.bytes (D.at fields.now) in
+        out.new ≡ map byte (range_with_len 0 form.now.bytes.count) }
 {
     for place in 0..out.len() {
         out[place] = byte(form, fields, place);

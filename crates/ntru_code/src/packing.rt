@@ -1,6 +1,7 @@
 // Packing by base: the digits of one side, from those of the other. Both directions are this one function.
 ghost use Rattle.std.specs.Prelude.{◌≡◌, ℕ, ◌+◌, ◌-◌, ◌*◌, ◌/◌, ◌<◌, ◌≤◌, ◌^◌, suc};
-ghost use Rattle.ntru_code.specs.Packing.{Agree, digit, last_of, number, translated};
+ghost use Rattle.ntru_code.specs.Packing.{digit, last_of, number, translated};
+ghost use Rattle.ntru_code.specs.Sides.{Agree};
 
 /// One side of a packing: the base of its digits, how many make a group, and how many there are in all.
 #[derive(Clone, Copy)]

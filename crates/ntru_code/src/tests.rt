@@ -58,25 +58,22 @@ fn small_form(rt: HostRuntime) -> Result<(), Fail> {
 fn forms_modulo_4591(rt: HostRuntime) -> Result<(), Fail> {
     let alloc = rt.alloc();
     let pattern = b"\xf7\x30\x97\x2c\x2e\x54\x64\x2d";
-    let spelled = bytes::<1218>(pattern, b"\x66\x8d\x5e\x4f\x7c\x2d\xd8\x14", b"\xe1\x0a");
-    let polynomial = decode_q(alloc, &spelled)?;
-    let mut out = [0xff; 1218];
-    encode_q(&polynomial, &mut out);
-    assert_eq!(rt; out, spelled);
-    let coefficients: [(usize, i16); 8] = [
-        (0, -913),
-        (1, -604),
-        (2, -212),
-        (3, -1928),
-        (4, -1241),
-        (5, 0),
-        (759, 0),
-        (760, 490),
+    let zero = bytes::<1218>(pattern, b"", b"\xf7\x08");
+    let some = bytes::<1218>(pattern, b"\x66\x8d\x5e\x4f\x7c\x2d\xd8\x14", b"\xe1\x0a");
+    let cases: [(&[u8; 1218], [i16; 8]); 2] = [
+        (&zero, [0; 8]),
+        (&some, [-913, -604, -212, -1928, -1241, 0, 0, 490]),
     ];
-    for (place, c) in coefficients {
-        if place < 761 {
-            assert_eq!(rt; polynomial.at(place), c);
+    for (spelled, coefficients) in cases {
+        let polynomial = decode_q(alloc, spelled)?;
+        let mut out = [0xff; 1218];
+        encode_q(&polynomial, &mut out);
+        assert_eq!(rt; out, *spelled);
+        for place in 0..6 {
+            assert_eq!(rt; polynomial.at(place), coefficients[place]);
         }
+        assert_eq!(rt; polynomial.at(759), coefficients[6]);
+        assert_eq!(rt; polynomial.at(760), coefficients[7]);
     }
     let faults: [([u8; 1218], usize); 2] = [
         (bytes::<1218>(pattern, b"", b"\xef\x11"), 760),
@@ -98,30 +95,30 @@ fn forms_modulo_4591(rt: HostRuntime) -> Result<(), Fail> {
 fn rounded_form(rt: HostRuntime) -> Result<(), Fail> {
     let alloc = rt.alloc();
     let pattern = b"\xfd\xf0\xa5\x6b";
-    let spelled = bytes::<1015>(
+    let zero = bytes::<1015>(pattern, b"", b"\xfd\xf0\x11");
+    let some = bytes::<1015>(
         pattern,
         b"\xcd\x39\xa5\x61\x7a\x3a\xb0\x0c",
         b"\x84\xc0\x15",
     );
-    let polynomial = decode_rounded(alloc, &spelled)?;
-    let mut out = [0xff; 1015];
-    let multiples = round_q(alloc, &polynomial)?;
-    encode_rounded(&multiples, &mut out);
-    assert_eq!(rt; out, spelled);
-    let coefficients: [(usize, i16); 9] = [
-        (0, -912),
-        (1, -603),
-        (2, -213),
-        (3, -1929),
-        (4, -1242),
-        (5, -2025),
-        (758, 0),
-        (759, -1899),
-        (760, 489),
+    let cases: [(&[u8; 1015], [i16; 9]); 2] = [
+        (&zero, [0; 9]),
+        (
+            &some,
+            [-912, -603, -213, -1929, -1242, -2025, 0, -1899, 489],
+        ),
     ];
-    for (place, c) in coefficients {
-        if place < 761 {
-            assert_eq!(rt; polynomial.at(place), c);
+    for (spelled, coefficients) in cases {
+        let polynomial = decode_rounded(alloc, spelled)?;
+        let mut out = [0xff; 1015];
+        let multiples = round_q(alloc, &polynomial)?;
+        encode_rounded(&multiples, &mut out);
+        assert_eq!(rt; out, *spelled);
+        for place in 0..6 {
+            assert_eq!(rt; polynomial.at(place), coefficients[place]);
+        }
+        for place in 758..761 {
+            assert_eq!(rt; polynomial.at(place), coefficients[place - 752]);
         }
     }
     let faults: [([u8; 1015], usize); 2] = [

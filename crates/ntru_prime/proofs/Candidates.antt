@@ -2,8 +2,7 @@
 use Rattle.std.proofs.Common.{◌≡◌, ℕ, zero, suc, ◌+◌, ◌*◌, ◌≤◌, ◌<◌, inl, inr, refl, ap, ◌∙◌, arith, Option, Some, None}
 use Rattle.std.specs.List.{range_with_len}
 use Rattle.std.proofs.lemmas.Bool.{cases_lt}
-use Rattle.mix_base.specs.WordStreams.{GoesOn}
-use Rattle.prim_std.specs.Primitives.{first_words}
+use Rattle.mix_base.specs.WordStreams.{GoesOn, first_words}
 use Rattle.ntru_prime.specs.Scheme.{candidate_words, first_value}
 
 -- the first value is that of the first number that has one

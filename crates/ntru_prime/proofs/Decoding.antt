@@ -4,7 +4,7 @@ use Rattle.std.specs.Prelude.{nat_lt}
 use Rattle.std.specs.List.{list_all, range_with_len}
 use Rattle.std.proofs.lemmas.Bool.{cases_lt}
 use Rattle.ntru_ring.specs.Polynomials.{IsPolynomial}
-use Rattle.ntru_code.specs.Causes.{IsCause}
+use Rattle.ntru_code.specs.Faults.{IsCause}
 use Rattle.ntru_code.specs.Forms.{AllInRange, AllMultiples, bound_at, field_in, rounded, small, spelling, whole}
 use Rattle.ntru_code.specs.declared.faults.CodeFault.{CodeFault}
 use Rattle.ntru_code.specs.declared.faults.CodeFault.TheVariants as faults
@@ -12,7 +12,7 @@ use Rattle.ntru_code.proofs.Reading.{values_are}
 use Rattle.ntru_code.proofs.Soundness.{rounded_is_sound, small_is_sound, whole_is_sound}
 use Rattle.ntru_code.proofs.Spelled.{rounded_can_spell, small_can_spell, whole_can_spell}
 use Rattle.ntru_prime.specs.Answers.{Gives}
-use Rattle.ntru_prime.specs.Causes.{refusal_of}
+use Rattle.ntru_prime.specs.Faults.{refusal_of}
 use Rattle.ntru_prime.specs.Reading.{all_below, rounded_in, small_in, whole_in}
 
 -- a test passes at all of a range, or fails at one

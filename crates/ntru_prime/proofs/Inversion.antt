@@ -4,12 +4,11 @@ use Rattle.std.specs.Prelude.{◌↔◌}
 use Rattle.std.specs.List.{range_with_len}
 use Rattle.std.specs.Cmp.Rules.{signed_items}
 use Rattle.std.proofs.lemmas.Int.{ints}
-use Rattle.ntru_ring.specs.Centring.{IsWithin, centred}
-use Rattle.ntru_ring.specs.Polynomials.{IsPolynomial, coefficient, one_polynomial, reduced}
+use Rattle.ntru_ring.specs.Centring.{IsWithin}
+use Rattle.ntru_ring.specs.Polynomials.{IsPolynomial, coefficient, one_polynomial}
 use Rattle.ntru_ring.specs.Product.{product}
 use Rattle.ntru_ring.proofs.Lists.{zero_within}
-use Rattle.ntru_ring.proofs.Residues.{centred_is}
-use Rattle.field_solve.specs.Answers.{IsInverse}
+use Rattle.field_solve.specs.Answers.{HasNoInverse, IsInverse, IsOnlyInverse}
 use Rattle.field_solve.specs.Moduli.{prime_of}
 use Rattle.field_solve.specs.declared.fields.Modulus.{Modulus}
 use Rattle.field_solve.proofs.Laws.{one_inverse}
@@ -81,7 +80,7 @@ unfolding are_inverse
 says_test prime poly other one = (signed_items (product prime poly other) one_polynomial).1 one
 
 -- the only inverse is the one that the definition has
-pub inverse_of-only : (prime : ℕ) (poly u : List ℤ) → IsInverse prime poly u → ((w : List ℤ) → IsInverse prime poly w → w ≡ u) → inverse_of prime poly ≡ Some u
+pub inverse_of-only : (prime : ℕ) (poly u : List ℤ) → IsInverse prime poly u → IsOnlyInverse prime poly u → inverse_of prime poly ≡ Some u
 unfolding inverse_of
 inverse_of-only prime poly u inverse only =
     find_only (are_inverse prime poly) (polynomials_within (prime / 2)) u (polynomial_is_member (prime / 2) u inverse.in_range) (says_test prime poly u inverse.product_is_one)
@@ -99,19 +98,8 @@ inverse_of_exactly modulus poly u polynomial =
     )
 
 -- where there is no inverse, the definition has none
-pub inverse_of-none : (prime : ℕ) (poly : List ℤ) → ((w : List ℤ) → IsInverse prime poly w → ⊥) → inverse_of prime poly ≡ None
+pub inverse_of-none : (prime : ℕ) (poly : List ℤ) → HasNoInverse prime poly → inverse_of prime poly ≡ None
 unfolding inverse_of
 inverse_of-none prime poly never =
     find_none (are_inverse prime poly) (polynomials_within (prime / 2))
     (λ w member passes. never w (record { in_range = member_is_polynomial (prime / 2) w member; product_is_one = test_says prime poly w passes }))
-
--- a list within 1 is reduced modulo 3 already
-reduced_each : (xs : List ℤ) → ((k : ℕ) → IsWithin 1 (coefficient xs k)) → reduced xs ≡ xs
-reduced_each [] within = refl
-reduced_each (x ∷ xs) within =
-    let first : centred 3 x ≡ x = centred_is 1 x (pos 0) x (within 0) (omega (arith, ints)) in
-    let rest : reduced xs ≡ xs = reduced_each xs (λ k. within (suc k)) in
-    cc
-
-pub reduced_same : (xs : List ℤ) → IsPolynomial 1 xs → reduced xs ≡ xs
-reduced_same xs polynomial = reduced_each xs polynomial.in_range

@@ -1,14 +1,9 @@
 -- What bytes say in the three forms, and the parts of a secret key.
 use Rattle.std.specs.Prelude.{ℕ, List, ℤ, take, drop, nat_lt, Bool, Option, Some, None, if◌then◌else◌}
 use Rattle.std.specs.List.{list_all, range_with_len}
+use Rattle.mix_base.specs.Options.{◌>>=◌}
 use Rattle.ntru_code.specs.Forms.{bound_at, field_in, rounded, small, values, whole}
 use Rattle.ntru_prime.specs.declared.reading.SecretKey.{SecretKey}
-
--- one step after the other: where one has no value, the whole has none
-infixl 10 ◌>>=◌
-abbrev pub ◌>>=◌ : {A B : Type 0} → Option A → (A → Option B) → Option B
-(Some x) >>= next = next x
-None >>= next = None
 
 -- a number of fields are below their bounds
 unfoldable pub all_below : ℕ → (ℕ → ℕ) → (ℕ → ℕ) → Bool
@@ -16,13 +11,16 @@ all_below count field bound = list_all (λ place. nat_lt (field place) (bound pl
 
 -- the polynomial of some bytes in each form, where no field is out of range
 unfoldable pub small_in : List ℕ → Option (List ℤ)
-small_in bytes = if all_below 762 (field_in small bytes) (bound_at small) then Some (values small bytes) else None
+small_in bytes =
+    if all_below 762 (field_in small bytes) (bound_at small) then Some (values small bytes) else None
 
 unfoldable pub whole_in : List ℕ → Option (List ℤ)
-whole_in bytes = if all_below 761 (field_in whole bytes) (bound_at whole) then Some (values whole bytes) else None
+whole_in bytes =
+    if all_below 761 (field_in whole bytes) (bound_at whole) then Some (values whole bytes) else None
 
 unfoldable pub rounded_in : List ℕ → Option (List ℤ)
-rounded_in bytes = if all_below 761 (field_in rounded bytes) (bound_at rounded) then Some (values rounded bytes) else None
+rounded_in bytes =
+    if all_below 761 (field_in rounded bytes) (bound_at rounded) then Some (values rounded bytes) else None
 
 -- a secret key is the small form of f, that of the inverse of g, 191 bytes each, and the public key
 unfoldable pub secret_key_in : List ℕ → Option SecretKey

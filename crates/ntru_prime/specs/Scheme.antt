@@ -5,15 +5,17 @@ use Rattle.std.specs.List.{range_with_len}
 use Rattle.std.specs.Option.{option_map}
 use Rattle.std.specs.Str.{bytes_eq}
 use Rattle.sha2.specs.Sha512.{sha512}
+use Rattle.mix_base.specs.Options.{◌>>=◌}
 use Rattle.mix_base.specs.Suites.{KemScheme, SuiteMeaning}
-use Rattle.prim_std.specs.Primitives.{hmac, hop_keys, chacha_byte, first_words, lioness_encrypted, lioness_decrypted}
+use Rattle.mix_base.specs.WordStreams.{first_words}
+use Rattle.prim_std.specs.StandardParts.{standard_meaning}
 use Rattle.ntru_ring.specs.Polynomials.{reduced, tripled, weight}
 use Rattle.ntru_ring.specs.Polynomials as polynomials
 use Rattle.ntru_ring.specs.Product.{product}
 use Rattle.ntru_code.specs.Forms.{rounded, small, spelling, whole}
 use Rattle.ntru_prime.specs.Drawing.{drawn_polynomial, weight_polynomial}
 use Rattle.ntru_prime.specs.Inverses.{inverse_of}
-use Rattle.ntru_prime.specs.Reading.{◌>>=◌, rounded_in, secret_key_in, whole_in}
+use Rattle.ntru_prime.specs.Reading.{rounded_in, secret_key_in, whole_in}
 use Rattle.ntru_prime.specs.declared.reading.SecretKey.{SecretKey}
 
 -- ---- a pair of keys
@@ -101,11 +103,4 @@ ntru_scheme = record {
 
 -- the suite: this mechanism with the standard parts
 abbrev pub ntru_meaning : SuiteMeaning
-ntru_meaning = record {
-  kem = ntru_scheme;
-  mac = hmac;
-  hop_keys = hop_keys;
-  stream = chacha_byte;
-  encrypt = lioness_encrypted;
-  decrypt = lioness_decrypted;
-}
+ntru_meaning = standard_meaning ntru_scheme

@@ -1,22 +1,11 @@
-// Words drawn from a generator, and the polynomials that they make.
-ghost use Rattle.std.specs.Prelude.{◌≡◌, ℕ, ◌+◌, length, map, IfOk};
-ghost use Rattle.prim_std.specs.Primitives.{first_words};
+// The polynomials that drawn words make.
+ghost use Rattle.std.specs.Prelude.{◌≡◌, length, map, IfOk};
 ghost use Rattle.ntru_ring.specs.Polynomials.{weight};
 ghost use Rattle.ntru_prime.specs.Drawing.{carried_coefficient, drawn_coefficient, drawn_polynomial, even, marked, one_of_four, sorted, weight_polynomial};
 
-use mix_base::{Memory, Words};
+use mix_base::Memory;
 use ntru_ring::Poly3;
 use std::alloc::Global;
-
-// Fills the list with the next words.
-pub(crate) fn draw<W: Words>(words: &mut W, drawn: &mut [u32])
-    ensures words { drawn.new ≡ first_words (W.to_come words.old) (length drawn.old) }
-    ensures rest { (place : ℕ) → W.to_come words.new place ≡ W.to_come words.old (length drawn.old + place) }
-{
-    'drawing: for i in 0..drawn.len() {
-        drawn[i] = words.next();
-    }
-}
 
 // The polynomial of 761 words, a coefficient from each.
 #[tactic(auto, using(crate::proofs::Coefficients::drawn_is_polynomial))]

@@ -14,7 +14,7 @@ pub(crate) enum Refusal {
 }
 
 impl From<CodeFault> for Refusal {
-    ghost use Rattle.ntru_prime.specs.Causes.{refusal_of};
+    ghost use Rattle.ntru_prime.specs.Faults.{refusal_of};
 
     ghost from_gives = { λ fault refusal. refusal ≡ refusal_of fault };
 

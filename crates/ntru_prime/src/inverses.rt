@@ -18,9 +18,9 @@ pub(crate) fn inverse_3(alloc: Global, poly: &Poly3) -> Result<Poly3, Refusal>
     ensures inverse { IfOk result (IsInverse 3 poly.now) }
     ensures divisor { OnRefused result ((v : List ℤ) × IsDivisor 3 poly.now v) }
 {
-    let _ = poly.at(0);
+    poly.known_in_range();
     let inverse = inverse(alloc, Modulus::Three, &lift(alloc, poly)?)?;
-    let _ = inverse.at(0);
+    inverse.known_in_range();
     Ok(reduce_3(alloc, &inverse)?)
 }
 
@@ -30,7 +30,7 @@ pub(crate) fn inverse_q(alloc: Global, poly: &PolyQ) -> Result<PolyQ, Refusal>
     ensures inverse { IfOk result (IsInverse 4591 poly.now) }
     ensures divisor { OnRefused result ((v : List ℤ) × IsDivisor 4591 poly.now v) }
 {
-    let _ = poly.at(0);
+    poly.known_in_range();
     inverse(alloc, Modulus::Q, poly)
 }
 
@@ -40,7 +40,8 @@ fn inverse(alloc: Global, modulus: Modulus, poly: &PolyQ) -> Result<PolyQ, Refus
     requires { IsPolynomial (prime_of modulus / 2) poly.now }
     ensures value { Gives result (inverse_of (prime_of modulus) poly.now) }
     // The inverse of the definition is any polynomial in range whose product is 1.
-    ensures exactly { (u : List ℤ) → (inverse_of (prime_of modulus) poly.now ≡ Some u) ↔ IsInverse (prime_of modulus) poly.now u }
+    ensures exactly { (u : List ℤ)
+        → (inverse_of (prime_of modulus) poly.now ≡ Some u) ↔ IsInverse (prime_of modulus) poly.now u }
     ensures inverse { IfOk result (IsInverse (prime_of modulus) poly.now) }
     ensures divisor { OnRefused result ((v : List ℤ) × IsDivisor (prime_of modulus) poly.now v) }
 {
@@ -55,7 +56,7 @@ fn inverse(alloc: Global, modulus: Modulus, poly: &PolyQ) -> Result<PolyQ, Refus
 fn coefficients(alloc: Global, poly: &PolyQ) -> Result<Vec<i16>, Memory>
     ensures { IfOk result (λ list. list.items ≡ poly.now) }
 {
-    let _ = poly.at(0);
+    poly.known_in_range();
     let mut list = Vec::with_capacity(alloc, 761)?;
     for place in 0..761 {
         list.push(poly.at(place))?;

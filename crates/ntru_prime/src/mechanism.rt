@@ -1,6 +1,5 @@
-// The mechanism as code above calls it, and its suite. A pair takes 0.3 seconds, nearly all in two inversions; an
-// encapsulation 0.4 milliseconds and a decapsulation 1, nearly all in one and three products. Lanes will make products
-// and inversions faster, under the same contracts.
+// The mechanism as code above calls it, and its suite. Nearly all of the work of a pair is in two inversions, and of an
+// encapsulation and a decapsulation in one product and three.
 ghost use Rattle.std.specs.Prelude.{◌≡◌, length, false, Some, None, OnOk, IsErrOf, refl};
 ghost use Rattle.mix_base.specs.WordStreams.{GoesOn};
 ghost use Rattle.ntru_prime.specs.Pairs.{AllPassedOver, IsFirstPair};
@@ -15,7 +14,8 @@ use prim_std::{ChaCha, HmacMac, LabelKdf, Lioness};
 use std::alloc::Global;
 
 /// The mechanism after sntrup4591761: public keys of 1,218 bytes, secret keys of 1,600, ciphertexts of 1,047, and 761
-/// words as coins. Every call may take memory.
+/// words as coins. Every call may take memory. After want of memory the output slices are as they were; after another
+/// refusal, or false, they hold any bytes.
 #[derive(Drop)]
 pub struct NtruKem;
 
@@ -54,11 +54,16 @@ impl Kem for NtruKem {
         requires public_length { length pk.old ≡ 1218 }
         requires secret_length { length sk.old ≡ 1600 }
         ensures ok { OnOk result (ntru_scheme.pair (W.to_come words.old) ≡ Some (pk.new, sk.new)) }
-        ensures no_key { IsErrOf result PairFault.NoKey → ntru_scheme.pair (W.to_come words.old) ≡ None }
+        ensures no_key { IsErrOf result PairFault.NoKey
+            → ntru_scheme.pair (W.to_come words.old) ≡ None }
         // The same in the ring: inverses by their products, and a divisor of zero for each candidate passed over.
-        ensures first { OnOk result (IsFirstPair (W.to_come words.old) (W.to_come words.new) pk.new sk.new) }
-        ensures passed_over { IsErrOf result PairFault.NoKey → AllPassedOver (W.to_come words.old) (W.to_come words.new) }
+        ensures first { OnOk result
+            (IsFirstPair (W.to_come words.old) (W.to_come words.new) pk.new sk.new) }
+        ensures passed_over { IsErrOf result PairFault.NoKey
+            → AllPassedOver (W.to_come words.old) (W.to_come words.new) }
         ensures words { GoesOn (W.to_come words.old) (W.to_come words.new) }
+        ensures memory_public { IsErrOf result PairFault.Memory → pk.new ≡ pk.old }
+        ensures memory_secret { IsErrOf result PairFault.Memory → sk.new ≡ sk.old }
     {
         match first_candidate(alloc, words) {
             Ok(key) => {

@@ -1,16 +1,15 @@
 // The pair of keys of a generator's words.
-ghost use Rattle.std.specs.Prelude.{◌≡◌, ℕ, ◌+◌, length, IfOk};
-ghost use Rattle.mix_base.specs.WordStreams.{GoesOn};
-ghost use Rattle.prim_std.specs.Primitives.{first_words};
+ghost use Rattle.std.specs.Prelude.{◌≡◌, length, IfOk};
+ghost use Rattle.mix_base.specs.WordStreams.{GoesOn, SkipsWords, first_words};
 ghost use Rattle.ntru_prime.specs.Answers.{Gives, OnRefused};
 ghost use Rattle.ntru_prime.specs.Pairs.{AllPassedOver, HasDivisor, IsFirstKey, IsKeyOf};
 ghost use Rattle.ntru_prime.specs.Scheme.{candidate, first_candidate, keys};
 
-use crate::drawing::{draw, drawn_polynomial, weight_polynomial};
+use crate::drawing::{drawn_polynomial, weight_polynomial};
 use crate::faults::Refusal;
 use crate::inverses::{inverse_3, inverse_q};
 use crate::reading::SecretKey;
-use mix_base::Words;
+use mix_base::{Words, draw};
 use ntru_code::{encode_q, encode_small};
 use ntru_ring::{lift, mul_q, triple};
 use std::alloc::Global;
@@ -19,7 +18,8 @@ use std::alloc::Global;
 pub(crate) fn first_candidate<W: Words>(alloc: Global, words: &mut W) -> Result<SecretKey, Refusal>
     ensures value { Gives result (first_candidate (W.to_come words.old)) }
     ensures first { IfOk result (IsFirstKey (W.to_come words.old) (W.to_come words.new)) }
-    ensures passed_over { OnRefused result (AllPassedOver (W.to_come words.old) (W.to_come words.new)) }
+    ensures passed_over { OnRefused result
+        (AllPassedOver (W.to_come words.old) (W.to_come words.new)) }
     ensures words { GoesOn (W.to_come words.old) (W.to_come words.new) }
 {
     let mut drawn = vec![in alloc; 0; 1522]?;
@@ -43,7 +43,7 @@ fn next_candidate<W: Words>(
     ensures value { Gives result (candidate (first_words (W.to_come words.old) 1522)) }
     ensures key { IfOk result (IsKeyOf (first_words (W.to_come words.old) 1522)) }
     ensures divisor { OnRefused result (HasDivisor (first_words (W.to_come words.old) 1522)) }
-    ensures rest { (place : ℕ) → W.to_come words.new place ≡ W.to_come words.old (1522 + place) }
+    ensures rest { SkipsWords 1522 (W.to_come words.old) (W.to_come words.new) }
 {
     draw(words, drawn);
     candidate(alloc, drawn)

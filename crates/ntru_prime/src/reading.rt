@@ -22,7 +22,7 @@ pub(crate) fn small_in(alloc: Global, bytes: &[u8]) -> Result<Poly3, Refusal>
     ensures { Gives result (small_in bytes.now) }
 {
     let polynomial = decode_small(alloc, bytes)?;
-    let _ = polynomial.at(0);
+    polynomial.known_in_range();
     Ok(polynomial)
 }
 
@@ -32,7 +32,7 @@ pub(crate) fn whole_in(alloc: Global, bytes: &[u8]) -> Result<PolyQ, Refusal>
     ensures { Gives result (whole_in bytes.now) }
 {
     let polynomial = decode_q(alloc, bytes)?;
-    let _ = polynomial.at(0);
+    polynomial.known_in_range();
     Ok(polynomial)
 }
 
@@ -42,7 +42,7 @@ pub(crate) fn rounded_in(alloc: Global, bytes: &[u8]) -> Result<PolyQ, Refusal>
     ensures { Gives result (rounded_in bytes.now) }
 {
     let polynomial = decode_rounded(alloc, bytes)?;
-    let _ = polynomial.at(0);
+    polynomial.known_in_range();
     Ok(polynomial)
 }
 

@@ -1,5 +1,5 @@
 // A ciphertext and a secret of a polynomial r, by which encapsulation makes them and decapsulation checks them.
-ghost use Rattle.std.specs.Prelude.{◌≡◌, length, IfOk};
+ghost use Rattle.std.specs.Prelude.{◌≡◌, length, IfOk, OnErr};
 ghost use Rattle.sha2.specs.Sha512.{sha512};
 ghost use Rattle.ntru_code.specs.Forms.{small, spelling};
 ghost use Rattle.ntru_prime.specs.Answers.{GivesAs};
@@ -14,11 +14,13 @@ use ntru_ring::{Poly3, PolyQ, lift, mul_q, round_q};
 use sha2::{Digest, Sha512};
 use std::alloc::Global;
 
-// Writes the ciphertext of r under the public polynomial h, 1,047 bytes, and answers the secret.
+// Writes the ciphertext of r under the public polynomial h, 1,047 bytes, and answers the secret. Memory is taken before
+// the first byte is written.
 #[tactic(auto, unfolding(crate::specs::Scheme::sealed))]
 pub(crate) fn seal(alloc: Global, h: &PolyQ, r: &Poly3, ct: &mut [u8]) -> Result<[u8; 32], Memory>
     requires { length ct.old ≡ 1047 }
-    ensures { IfOk result (λ secret. (ct.new, secret) ≡ sealed h.now r.now) }
+    ensures value { IfOk result (λ secret. (ct.new, secret) ≡ sealed h.now r.now) }
+    ensures untouched { OnErr result (ct.new ≡ ct.old) }
 {
     let c = round_q(alloc, &mul_q(alloc, h, &lift(alloc, r)?)?)?;
     let hash = hash_of(r);
@@ -51,7 +53,8 @@ pub(crate) fn encapsulated(
     requires public_length { length pk.now ≡ 1218 }
     requires coins { length coins.now ≡ 761 }
     requires ciphertext_length { length ct.old ≡ 1047 }
-    ensures { GivesAs (λ secret. (ct.new, secret)) result (encapsulated pk.now coins.now) }
+    ensures value { GivesAs (λ secret. (ct.new, secret)) result (encapsulated pk.now coins.now) }
+    ensures untouched { OnErr result (ct.new ≡ ct.old) }
 {
     let h = whole_in(alloc, pk)?;
     let r = weight_polynomial(alloc, coins)?;

@@ -14,15 +14,9 @@ use std::alloc::Global;
 use std::process::Abort;
 use std::test::Fail;
 
-const DIGITS: &[u8; 16] = b"0123456789abcdef";
-
 // The bytes are those of the hexadecimal digits.
 fn expect_hex(rt: &impl Abort, alloc: Global, bytes: &[u8], want: &str) -> Result<(), Fail> {
-    let mut text = String::new(alloc);
-    for byte in bytes {
-        text.push(char::from(DIGITS[usize::from(*byte / 16)]))?;
-        text.push(char::from(DIGITS[usize::from(*byte % 16)]))?;
-    }
+    let text = hex::encode(alloc, bytes)?;
     assert_eq!(rt; text.as_str(), want);
     Ok(())
 }

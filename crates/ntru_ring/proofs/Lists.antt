@@ -1,11 +1,11 @@
 -- Lists of 761 coefficients, and what becomes of them under a function of each coefficient.
-use Rattle.std.proofs.Common.{◌≡◌, ℕ, zero, suc, ◌+◌, ◌≤◌, ℤ, pos, ◌+ℤ◌, ◌*ℤ◌, List, [], ◌∷◌, map, get_or, refl, ◌∙◌, arith, ◌*◌, unsigned_abs, replicate}
+use Rattle.std.proofs.Common.{◌≡◌, ℕ, zero, suc, ◌≤◌, ℤ, pos, ◌*ℤ◌, List, [], ◌∷◌, map, get_or, refl, ◌∙◌, arith, ◌*◌, unsigned_abs, replicate}
 use Rattle.std.proofs.lemmas.List.{length-map, get_or_past, length-replicate}
 use Rattle.std.proofs.lemmas.Int.{ints, unsigned_abs-mul}
 use Rattle.std.proofs.lemmas.Nat.{mul-le}
-use Rattle.ntru_ring.specs.Centring.{IsWithin, IsNearestMultiple, nearest_multiple}
-use Rattle.ntru_ring.specs.Polynomials.{IsPolynomial, coefficient, tripled, reduced, rounded}
-use Rattle.ntru_ring.proofs.Residues.{centred_within, nearest_multiple_is}
+use Rattle.ntru_ring.specs.Centring.{IsWithin, centred, nearest_multiple}
+use Rattle.ntru_ring.specs.Polynomials.{AreNearestMultiples, AreResidues, IsPolynomial, coefficient, tripled, reduced, rounded}
+use Rattle.ntru_ring.proofs.Residues.{centred_is, centred_is_residue, centred_within, nearest_multiple_is}
 
 -- zero is within every bound
 pub zero_within : (bound : ℕ) → IsWithin bound (pos 0)
@@ -43,10 +43,29 @@ lifted_is_polynomial a polynomial =
     }
 
 -- at each place, past the last one too
-pub rounded_is_nearest : (a : List ℤ) (place : ℕ) → IsNearestMultiple (coefficient a place) (coefficient (rounded a) place)
+pub rounded_is_nearest : (a : List ℤ) → AreNearestMultiples a (rounded a)
 rounded_is_nearest [] place = record { multiple = (pos 0, refl); near = zero_within 1 }
 rounded_is_nearest (x ∷ xs) zero = nearest_multiple_is x
 rounded_is_nearest (x ∷ xs) (suc place) = rounded_is_nearest xs place
+
+-- what is done to each coefficient gives residues
+pub tripled_are_residues : (a : List ℤ) → AreResidues 4591 (λ place. coefficient a place *ℤ pos 3) (tripled a)
+tripled_are_residues [] place within = record { near = zero_within 2295; congruent = (pos 0, refl) }
+tripled_are_residues (x ∷ xs) zero within = centred_is_residue 2295 (x *ℤ pos 3)
+tripled_are_residues (x ∷ xs) (suc place) within = tripled_are_residues xs place (omega arith)
+
+pub reduced_are_residues : (a : List ℤ) → AreResidues 3 (coefficient a) (reduced a)
+reduced_are_residues [] place within = record { near = zero_within 1; congruent = (pos 0, refl) }
+reduced_are_residues (x ∷ xs) zero within = centred_is_residue 1 x
+reduced_are_residues (x ∷ xs) (suc place) within = reduced_are_residues xs place (omega arith)
+
+-- coefficients from -1 to 1 are reduced modulo 3 already
+pub reduced_same : (a : List ℤ) → ((k : ℕ) → IsWithin 1 (coefficient a k)) → reduced a ≡ a
+reduced_same [] within = refl
+reduced_same (x ∷ xs) within =
+    let first : centred 3 x ≡ x = centred_is 1 x (pos 0) x (within 0) (omega (arith, ints)) in
+    let rest : reduced xs ≡ xs = reduced_same xs (λ k. within (suc k)) in
+    cc
 
 -- past the last place there is nothing
 pub coefficient_past : (bound : ℕ) (a : List ℤ) (place : ℕ) → IsPolynomial bound a → 761 ≤ place → coefficient a place ≡ pos 0

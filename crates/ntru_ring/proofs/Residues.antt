@@ -3,7 +3,7 @@ use Rattle.std.proofs.Common.{◌≡◌, ℕ, suc, ◌+◌, ◌-◌, ◌*◌, �
 use Rattle.std.specs.Int.{int_rem_euclid}
 use Rattle.std.proofs.lemmas.Int.{ints, int_rem_euclid_is}
 use Rattle.std.proofs.lemmas.Nat.{mod-mul-add, mod_below, div-add-mod'}
-use Rattle.ntru_ring.specs.Centring.{IsWithin, IsCongruent, centred, IsNearestMultiple, nearest_multiple}
+use Rattle.ntru_ring.specs.Centring.{IsWithin, IsCongruent, IsResidue, centred, IsNearestMultiple, nearest_multiple}
 
 -- what lies m above a multiple of n leaves m
 below_itself : (n m : ℕ) → m < n → m % n ≡ m
@@ -57,6 +57,11 @@ centred_within h z =
     let p = parts (2 * h + 1) (z +ℤ pos h) (omega arith) in
     let at : centred (2 * h + 1) z ≡ pos p.rest -ℤ pos h = centred_above h p.rest z p.times p.below p.is in
     rw at (record { low = omega (arith, ints, p.below); high = omega (arith, ints, p.below) })
+
+pub centred_is_residue : (h : ℕ) (z : ℤ) → IsResidue (2 * h + 1) z (centred (2 * h + 1) z)
+centred_is_residue h z =
+    let near : IsWithin ((2 * h + 1) / 2) (centred (2 * h + 1) z) = rw half_of_odd (centred_within h z) in
+    record { near = near; congruent = centred_differs h z }
 
 -- the nearest multiple of 3 is one, and there is no other
 pub nearest_multiple_is : (z : ℤ) → IsNearestMultiple z (nearest_multiple z)

@@ -4,10 +4,10 @@ use Rattle.std.proofs.Common.{◌≡◌, ℕ, zero, suc, ◌+◌, ◌*◌, ◌<�
 use Rattle.std.proofs.lemmas.Bool.{cases_lt}
 use Rattle.std.proofs.lemmas.List.{get_or_past}
 use Rattle.std.proofs.lemmas.List.FromFn.{length-map-range_with_len, get_or-map-range_with_len, map-range_with_len_more}
-use Rattle.ntru_ring.specs.Centring.{IsWithin, centred}
-use Rattle.ntru_ring.specs.Polynomials.{IsPolynomial, coefficient, coefficients}
+use Rattle.ntru_ring.specs.Centring.{IsResidue, IsWithin, centred}
+use Rattle.ntru_ring.specs.Polynomials.{AreResidues, IsPolynomial, coefficient, coefficients}
 use Rattle.ntru_ring.specs.Product.{convolution, folded, ring_coefficient, product}
-use Rattle.ntru_ring.proofs.Residues.{centred_within}
+use Rattle.ntru_ring.proofs.Residues.{centred_is_residue, centred_within}
 use Rattle.ntru_ring.proofs.Lists.{zero_within}
 
 -- a list that is given place by place
@@ -87,3 +87,10 @@ product_q_is_polynomial a b = product_is_polynomial 2295 a b
 
 pub product_3_is_polynomial : (a b : List ℤ) → IsPolynomial 1 (product 3 a b)
 product_3_is_polynomial a b = product_is_polynomial 1 a b
+
+-- its coefficients are the residues of the ring's over the integers
+pub product_are_residues : (half : ℕ) (a b : List ℤ) → AreResidues (2 * half + 1) (ring_coefficient a b) (product (2 * half + 1) a b)
+unfolding product
+product_are_residues half a b place within =
+    let at : ℕ → ℤ = λ k. centred (2 * half + 1) (ring_coefficient a b k) in
+    subst (IsResidue (2 * half + 1) (ring_coefficient a b place)) (sym (coefficient_at 761 at place within)) (centred_is_residue half (ring_coefficient a b place))

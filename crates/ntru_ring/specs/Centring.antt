@@ -11,7 +11,12 @@ pub record IsWithin (bound : ℕ) (z : ℤ) : Type 0 where
 abbrev pub IsCongruent : ℕ → ℤ → ℤ → Type 0
 IsCongruent modulus y z = (q : ℤ) × (y ≡ z +ℤ q *ℤ pos modulus)
 
--- the residue from -h to h of an odd modulus 2 h + 1: the remainder of z + h, less h
+-- r is the centred residue of z modulo an odd number: no further from zero than its half, and a multiple of it away
+pub record IsResidue (modulus : ℕ) (z r : ℤ) : Type 0 where
+  pub near : IsWithin (modulus / 2) r
+  pub congruent : IsCongruent modulus z r
+
+-- that residue, from -h to h modulo 2 h + 1: the remainder of z + h, less h
 unfoldable pub centred : ℕ → ℤ → ℤ
 centred modulus z = let half = modulus / 2 in int_rem_euclid (z +ℤ pos half) (pos modulus) -ℤ pos half
 

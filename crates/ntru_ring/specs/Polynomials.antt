@@ -1,8 +1,8 @@
 -- Polynomials as lists of 761 integers, the coefficient of x^k at place k; and what is done to each coefficient
 -- alone.
-use Rattle.std.specs.Prelude.{◌≡◌, ℕ, ℤ, pos, ◌*ℤ◌, List, ◌∷◌, length, map, replicate, slice_index_or, nat_lt, unsigned_abs, count_by}
+use Rattle.std.specs.Prelude.{◌≡◌, ℕ, ◌<◌, ℤ, pos, ◌*ℤ◌, List, ◌∷◌, length, map, replicate, slice_index_or, nat_lt, unsigned_abs, count_by}
 use Rattle.std.specs.List.{range_with_len}
-use Rattle.ntru_ring.specs.Centring.{IsWithin, centred, nearest_multiple}
+use Rattle.ntru_ring.specs.Centring.{IsWithin, IsResidue, IsNearestMultiple, centred, nearest_multiple}
 
 -- the coefficient at a place; past the last one it is zero
 abbrev pub coefficient : List ℤ → ℕ → ℤ
@@ -16,6 +16,16 @@ coefficients count at = map at (range_with_len 0 count)
 pub record IsPolynomial (bound : ℕ) (polynomial : List ℤ) : Type 0 where
   pub whole : length polynomial ≡ 761
   pub in_range : (place : ℕ) → IsWithin bound (coefficient polynomial place)
+
+-- each coefficient is the centred residue of the integer for its place
+abbrev pub AreResidues : ℕ → (ℕ → ℤ) → List ℤ → Type 0
+AreResidues modulus integer polynomial =
+    (place : ℕ) → place < 761 → IsResidue modulus (integer place) (coefficient polynomial place)
+
+-- each coefficient is the multiple of 3 that is nearest to the one at its place
+abbrev pub AreNearestMultiples : List ℤ → List ℤ → Type 0
+AreNearestMultiples before after =
+    (place : ℕ) → IsNearestMultiple (coefficient before place) (coefficient after place)
 
 -- the polynomials 0 and 1
 unfoldable pub zero_polynomial : List ℤ

@@ -1,8 +1,8 @@
 // What is done to each coefficient alone: tripling, the way from one ring to the other, rounding; and the count
 // of those that aren't zero.
-ghost use Rattle.std.specs.Prelude.{◌≡◌, ℕ, ◌+◌, ◌*◌, ◌≤◌, ℤ, pos, ◌*ℤ◌, IfOk};
-ghost use Rattle.ntru_ring.specs.Centring.{IsWithin, IsNearestMultiple, centred, nearest_multiple};
-ghost use Rattle.ntru_ring.specs.Polynomials.{IsPolynomial, coefficient, reduced, rounded, tripled, weight};
+ghost use Rattle.std.specs.Prelude.{◌≡◌, ◌+◌, ◌*◌, ◌≤◌, pos, ◌*ℤ◌, IfOk};
+ghost use Rattle.ntru_ring.specs.Centring.{IsWithin, centred, nearest_multiple};
+ghost use Rattle.ntru_ring.specs.Polynomials.{AreNearestMultiples, AreResidues, IsPolynomial, coefficient, reduced, rounded, tripled, weight};
 
 use crate::{Poly3, PolyQ};
 use mix_base::Memory;
@@ -11,7 +11,9 @@ use std::alloc::Global;
 /// Three times a polynomial, modulo 4591.
 #[tactic(auto, using(crate::proofs::Lists::tripled_is_polynomial))]
 pub fn triple(alloc: Global, a: &PolyQ) -> Result<PolyQ, Memory>
-    ensures { IfOk result (λ p. p ≡ tripled a.now) }
+    ensures value { IfOk result (λ p. p ≡ tripled a.now) }
+    // Each is three times that of its place, modulo 4591.
+    ensures residues { IfOk result (AreResidues 4591 (λ place. coefficient a.now place *ℤ pos 3)) }
 {
     let coefficients = each_tripled(alloc, &a.coefficients)?;
     Ok(PolyQ { coefficients })
@@ -41,7 +43,9 @@ pub fn lift(alloc: Global, a: &Poly3) -> Result<PolyQ, Memory>
 /// Each coefficient modulo 3.
 #[tactic(auto, using(crate::proofs::Lists::reduced_is_polynomial))]
 pub fn reduce_3(alloc: Global, a: &PolyQ) -> Result<Poly3, Memory>
-    ensures { IfOk result (λ p. p ≡ reduced a.now) }
+    ensures value { IfOk result (λ p. p ≡ reduced a.now) }
+    // Each is that of its place, modulo 3.
+    ensures residues { IfOk result (AreResidues 3 (coefficient a.now)) }
 {
     let coefficients = each_reduced(alloc, &a.coefficients)?;
     Ok(Poly3 { coefficients })
@@ -64,7 +68,7 @@ fn residue_3(c: i16) -> i16
 #[tactic(auto, using(crate::proofs::Lists::rounded_is_polynomial))]
 pub fn round_q(alloc: Global, a: &PolyQ) -> Result<PolyQ, Memory>
     ensures value { IfOk result (λ p. p ≡ rounded a.now) }
-    ensures nearest { IfOk result (λ p. (place : ℕ) → IsNearestMultiple (coefficient a.now place) (coefficient p place)) }
+    ensures nearest { IfOk result (AreNearestMultiples a.now) }
 {
     let coefficients = each_rounded(alloc, &a.coefficients)?;
     Ok(PolyQ { coefficients })

@@ -1,5 +1,5 @@
 // The polynomials of both rings.
-ghost use Rattle.std.specs.Prelude.{◌≡◌, ℕ, ◌<◌, List, ℤ, length, IfOk};
+ghost use Rattle.std.specs.Prelude.{◌≡◌, ◌<◌, List, ℤ, IfOk};
 
 use mix_base::Memory;
 use std::alloc::Global;
@@ -43,6 +43,13 @@ impl PolyQ {
     {
         self.coefficients[i]
     }
+
+    /// Does nothing: it tells the caller's proof that there are 761 coefficients, from -2295 to 2295.
+    pub fn known_in_range(&self)
+        ensures in_range { IsPolynomial 2295 self.now }
+    {
+        let _known = &self.coefficients;
+    }
 }
 
 /// A polynomial modulo 3: 761 coefficients from -1 to 1, that of x^k at place k. Contracts see the list of them.
@@ -81,5 +88,12 @@ impl Poly3 {
         ensures in_range { IsPolynomial 1 self.now }
     {
         self.coefficients[i] as i8
+    }
+
+    /// Does nothing: it tells the caller's proof that there are 761 coefficients, from -1 to 1.
+    pub fn known_in_range(&self)
+        ensures in_range { IsPolynomial 1 self.now }
+    {
+        let _known = &self.coefficients;
     }
 }

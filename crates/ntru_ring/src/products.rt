@@ -1,9 +1,9 @@
 // The products of both rings: each pair of coefficients is multiplied once, and the sums are folded and centred
-// at the end. A product takes about a millisecond; lanes will make it faster under the same contracts.
-ghost use Rattle.std.specs.Prelude.{◌≡◌, ℕ, ◌+◌, ◌*◌, ◌<◌, ◌≤◌, ℤ, pos, ◌*ℤ◌, ◌≤ℤ◌, List, length, IfOk};
+// at the end.
+ghost use Rattle.std.specs.Prelude.{◌≡◌, ℕ, ◌+◌, ◌*◌, ◌<◌, ◌≤◌, ◌*ℤ◌, length, IfOk};
 ghost use Rattle.ntru_ring.specs.Centring.{IsWithin, centred};
-ghost use Rattle.ntru_ring.specs.Polynomials.{IsPolynomial, coefficient, coefficients};
-ghost use Rattle.ntru_ring.specs.Product.{convolution, folded, product};
+ghost use Rattle.ntru_ring.specs.Polynomials.{AreResidues, IsPolynomial, coefficient, coefficients};
+ghost use Rattle.ntru_ring.specs.Product.{convolution, folded, product, ring_coefficient};
 
 use crate::coefficients::centred;
 use crate::{Poly3, PolyQ};
@@ -13,7 +13,9 @@ use std::alloc::Global;
 /// The product modulo 4591.
 #[tactic(auto, using(crate::proofs::Ring::product_q_is_polynomial))]
 pub fn mul_q(alloc: Global, a: &PolyQ, b: &PolyQ) -> Result<PolyQ, Memory>
-    ensures { IfOk result (λ p. p ≡ product 4591 a.now b.now) }
+    ensures value { IfOk result (λ p. p ≡ product 4591 a.now b.now) }
+    // Each is the ring's coefficient over the integers, modulo 4591.
+    ensures residues { IfOk result (AreResidues 4591 (ring_coefficient a.now b.now)) }
 {
     let coefficients = product(alloc, &a.coefficients, &b.coefficients, 2295)?;
     Ok(PolyQ { coefficients })
@@ -22,7 +24,9 @@ pub fn mul_q(alloc: Global, a: &PolyQ, b: &PolyQ) -> Result<PolyQ, Memory>
 /// The product modulo 3.
 #[tactic(auto, using(crate::proofs::Ring::product_3_is_polynomial, crate::proofs::Lists::lifted_is_polynomial))]
 pub fn mul_3(alloc: Global, a: &Poly3, b: &Poly3) -> Result<Poly3, Memory>
-    ensures { IfOk result (λ p. p ≡ product 3 a.now b.now) }
+    ensures value { IfOk result (λ p. p ≡ product 3 a.now b.now) }
+    // Each is the ring's coefficient over the integers, modulo 3.
+    ensures residues { IfOk result (AreResidues 3 (ring_coefficient a.now b.now)) }
 {
     let coefficients = product(alloc, &a.coefficients, &b.coefficients, 1)?;
     Ok(Poly3 { coefficients })
@@ -47,8 +51,10 @@ fn product(alloc: Global, a: &[i16], b: &[i16], half: u16) -> Result<Vec<i16>, M
 fn convolution(alloc: Global, a: &[i16], b: &[i16]) -> Result<Vec<i64>, Memory>
     requires left { IsPolynomial 2295 a.now }
     requires right { IsPolynomial 2295 b.now }
-    ensures value { IfOk result (λ v. v.items ≡ coefficients 1522 (convolution (coefficient a.now) (coefficient b.now))) }
-    ensures small { IfOk result (λ v. (place : ℕ) → IsWithin (761 * 5267025) (coefficient v.items place)) }
+    ensures value { IfOk result
+        (λ v. v.items ≡ coefficients 1522 (convolution (coefficient a.now) (coefficient b.now))) }
+    ensures small { IfOk result
+        (λ v. (place : ℕ) → IsWithin (761 * 5267025) (coefficient v.items place)) }
 {
     let mut plain = Vec::with_capacity(alloc, 1522)?;
     for place in 0..1522 {

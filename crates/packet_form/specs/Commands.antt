@@ -1,8 +1,9 @@
 -- The commands of one hop: how long it holds the packet, and where the packet goes from there. Their spelling has 72
 -- bytes: the part of the delay, the part of the exit, and zeros. Numbers are big-endian.
-use Rattle.std.specs.Prelude.{◌≡◌, ℕ, ◌-◌, ◌==◌, ◌≤◌, List, [], ◌∷◌, ◌++◌, length, drop, replicate, slice_index, slice_range, nat_le, Bool, Option, Some, None, IfSome, if◌then◌else◌}
+use Rattle.std.specs.Prelude.{◌≡◌, ℕ, ◌-◌, ◌==◌, ◌≤◌, List, [], ◌∷◌, ◌++◌, length, drop, replicate, slice_index, slice_range, nat_le, Option, Some, None, IfSome, if◌then◌else◌}
 use Rattle.std.specs.Int.{w32, to_be_bytes, from_be_bytes}
-use Rattle.std.specs.List.{list_all}
+use Rattle.mix_base.specs.ByteLists.{all_zero}
+use Rattle.mix_base.specs.Options.{◌>>=◌}
 use Rattle.packet_form.specs.declared.commands.Cmds.{Cmds}
 use Rattle.packet_form.specs.declared.commands.Exit.{Exit}
 use Rattle.packet_form.specs.declared.commands.Exit.TheVariants.{Hop, Recipient, Reply}
@@ -42,13 +43,7 @@ HasLengths (Hop id mac) = (length id ≡ 32) × (length mac ≡ 32)
 HasLengths (Recipient id) = length id ≡ 32
 HasLengths (Reply id surb) = (length id ≡ 32) × (length surb ≡ 16)
 
--- ---- the reading, from the front
-
--- one part after the other: where one isn't read, nothing is
-infixl 10 ◌>>=◌
-abbrev pub ◌>>=◌ : {A B : Type 0} → Option A → (A → Option B) → Option B
-None >>= next = None
-(Some part) >>= next = next part
+-- ---- the reading, from the front: one part after the other, and where one isn't read, nothing is
 
 -- a delay of so many milliseconds, with the bytes behind it, where it isn't too long
 abbrev pub allowed_delay : ℕ → List ℕ → Option (Option ℕ × List ℕ)
@@ -77,10 +72,6 @@ unfoldable pub exit_at : List ℕ → Option (Exit × List ℕ)
 exit_at bytes =
     if slice_index bytes 0 == 1 then Some (hop_at bytes)
     else (if slice_index bytes 0 == 2 then Some (recipient_at bytes) else None)
-
--- all of the bytes are zero
-abbrev pub all_zero : List ℕ → Bool
-all_zero bytes = list_all (λ byte. byte == 0) bytes
 
 -- the commands that the bytes spell, where they spell any: a delay or none, an exit, and zeros
 unfoldable pub read : List ℕ → Option Cmds

@@ -1,8 +1,10 @@
 // The commands of one hop, read from the 72 bytes of a slot and written to them. What is written is read as the
 // commands that were written, and what is read is spelled by these bytes alone. Neither takes memory.
-ghost use Rattle.std.specs.Prelude.{◌≡◌, ◌≢◌, ◌+◌, ◌≤◌, ◌++◌, ℕ, List, [], ◌∷◌, length, slice_range, Some, IfSome, IfNone, option_map};
-ghost use Rattle.packet_form.specs.Commands.{IsAllowed, HasLengths, all_zero, delay_at, delay_part, exit_at, exit_part, hop_at, longest_delay, padded, read, recipient_at, spell};
+ghost use Rattle.std.specs.Prelude.{◌≡◌, ◌≢◌, ◌+◌, ◌≤◌, ◌++◌, ◌↔◌, ℕ, List, [], ◌∷◌, length, slice_range, IsTrue, Some, IfSome, IfNone, option_map};
+ghost use Rattle.packet_form.specs.Commands.{IsAllowed, HasLengths, delay_at, delay_part, exit_at, exit_part, hop_at, longest_delay, padded, read, recipient_at, spell};
 ghost use Rattle.packet_form.specs.declared.commands.Cmds.{Cmds};
+
+use mix_base::is_zero;
 
 /// The longest delay, three hours in milliseconds.
 pub const LONGEST_DELAY: u32 = 10_800_000;
@@ -27,18 +29,31 @@ pub struct Cmds {
     pub exit: Exit,
 }
 
+impl Cmds {
+    /// Whether these commands may be written: their delay, where there is one, is at most `LONGEST_DELAY`.
+    pub fn is_allowed(&self) -> bool
+        ensures { IsTrue result ↔ IsAllowed self.now }
+    {
+        match self.delay {
+            Some(delay) => delay <= LONGEST_DELAY,
+            None => true,
+        }
+    }
+}
+
 /// The commands that the bytes of a slot spell. `None` comes exactly where they spell none.
 pub fn read_cmds(bytes: &[u8; 72]) -> Option<Cmds>
     ensures exact { result ≡ read bytes.now }
     // These bytes spell what is read.
     ensures spelled { IfSome result (λ cmds. IsAllowed cmds × (bytes.now ≡ spell cmds)) }
     // Where nothing is read, these bytes spell no commands.
-    ensures none { IfNone result ((cmds : Cmds) → IsAllowed cmds → HasLengths cmds.exit → bytes.now ≢ spell cmds) }
+    ensures none { IfNone result
+        ((cmds : Cmds) → IsAllowed cmds → HasLengths cmds.exit → bytes.now ≢ spell cmds) }
 {
     read_parts(bytes)
 }
 
-/// The one spelling of commands. Asks a delay of at most `LONGEST_DELAY`, where there is one.
+/// The one spelling of commands. Asks a delay of at most `LONGEST_DELAY`, where there is one: `Cmds::is_allowed`.
 #[tactic(auto, unfolding(crate::specs::Commands::spell))]
 pub fn write_cmds(cmds: &Cmds) -> [u8; 72]
     requires { IsAllowed cmds.now }
@@ -50,13 +65,6 @@ pub fn write_cmds(cmds: &Cmds) -> [u8; 72]
     let behind = write_delay(&mut bytes, cmds.delay);
     write_exit(&mut bytes, behind, &cmds.exit);
     bytes
-}
-
-// Whether all bytes are zero.
-fn is_zero(bytes: &[u8]) -> bool
-    ensures { result ≡ all_zero bytes.now }
-{
-    bytes.iter().all(|byte| *byte == 0)
 }
 
 // The parts one after the other, and zeros behind them.
@@ -146,7 +154,8 @@ fn split_recipient(bytes: &[u8]) -> (Exit, &[u8])
 // Writes a field behind those that are written.
 fn put(bytes: &mut [u8; 72], at: usize, field: &[u8])
     requires { at + length field.now ≤ 72 }
-    ensures { (written : List ℕ) → length written ≡ at → bytes.old ≡ padded written → bytes.new ≡ padded (written ++ field.now) }
+    ensures { (written : List ℕ) → length written ≡ at → bytes.old ≡ padded written →
+        bytes.new ≡ padded (written ++ field.now) }
 {
     bytes[at..at + field.len()].copy_from_slice(field);
 }
@@ -171,7 +180,8 @@ fn write_delay(bytes: &mut [u8; 72], delay: Option<u32>) -> usize
 // Writes the part of the exit behind what is written.
 fn write_exit(bytes: &mut [u8; 72], at: usize, exit: &Exit)
     requires { at ≤ 5 }
-    ensures value { (written : List ℕ) → length written ≡ at → bytes.old ≡ padded written → bytes.new ≡ padded (written ++ exit_part exit.now) }
+    ensures value { (written : List ℕ) → length written ≡ at → bytes.old ≡ padded written →
+        bytes.new ≡ padded (written ++ exit_part exit.now) }
     ensures lengths { HasLengths exit.now }
 {
     match exit {

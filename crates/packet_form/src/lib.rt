@@ -3,9 +3,11 @@
 #![tactic(auto)]
 
 mod commands;
+mod faults;
 mod packet_sizes;
 #[cfg(test)]
 mod tests;
 
 pub use commands::{Cmds, Exit, LONGEST_DELAY, read_cmds, write_cmds};
-pub use packet_sizes::{Geometry, GeometryFault};
+pub use faults::GeometryFault;
+pub use packet_sizes::Geometry;

@@ -1,21 +1,16 @@
 // The geometry of a network's packets: three sizes, and the lengths of all parts that follow from them.
-ghost use Rattle.std.specs.Prelude.{◌≡◌, ℕ, ◌≤◌, ◌↔◌, IsOk, IfOk, IsErrOf};
+ghost use Rattle.std.specs.Prelude.{◌≡◌, ◌==◌, ℕ, ◌≤◌, ◌↔◌, IsOk, IfOk, IsErrOf};
+ghost use Rattle.std.proofs.Common.{rules};
+ghost use Rattle.std.specs.Cmp.Rules.{comparing};
+ghost use Rattle.std.specs.Ordering.{eq_of_both, on};
 ghost use Rattle.packet_form.specs.Geometry.{Sizes, IsWithin, InRange};
 ghost use Rattle.packet_form.specs.Geometry as lengths;
 
+use crate::GeometryFault;
 use std::marker::Model;
 
-/// Why there is no geometry of these numbers.
-#[derive(Clone, Copy, Debug, PartialEq, Eq)]
-pub enum GeometryFault {
-    /// The number of hops isn't 1 to 5.
-    Hops,
-    /// The length of the body isn't 1 to 4,096.
-    Body,
-}
-
 /// The sizes of a network's packets. Contracts see it as these sizes, and its lengths are in bytes.
-#[derive(Clone, Copy)]
+#[derive(Clone, Copy, Debug)]
 pub struct Geometry {
     ct: usize,
     hops: usize,
@@ -32,6 +27,20 @@ impl Model for Geometry {
     ghost inverse = { λ sizes. record { ct = sizes.ct; hops = sizes.hops; body = sizes.body } };
 }
 
+impl PartialEq for Geometry {
+    ghost eq = { eq_of_both (on (λ g. g.ct) ◌==◌) (eq_of_both (on (λ g. g.hops) ◌==◌) (on (λ g. g.body) ◌==◌)) };
+
+    ghost laws = { Prim.search (comparing, rules) };
+
+    fn eq(&self, other: &Geometry) -> bool {
+        self.ct == other.ct && self.hops == other.hops && self.body == other.body
+    }
+}
+
+impl Eq for Geometry {
+    ghost laws = { Prim.search (comparing, rules) };
+}
+
 impl Geometry {
     /// The geometry of a ciphertext's length, a greatest number of hops and a body's length. Asks a ciphertext
     /// of at most 4,096 bytes. `Hops` comes exactly where hops isn't 1 to 5, and else `Body` exactly where body
@@ -39,7 +48,9 @@ impl Geometry {
     pub fn new(ct: usize, hops: usize, body: usize) -> Result<Geometry, GeometryFault>
         requires { ct ≤ 4096 }
         ensures ok { IsOk result ↔ (IsWithin 1 5 hops × IsWithin 1 4096 body) }
-        ensures hops { IsErrOf result GeometryFault.Hops ↔ (IsWithin 1 5 hops → ⊥) }
+        ensures hops { IsErrOf result GeometryFault.Hops ↔ ¬ IsWithin 1 5 hops }
+        ensures body { IsErrOf result GeometryFault.Body ↔
+            (IsWithin 1 5 hops × ¬ IsWithin 1 4096 body) }
         ensures sizes { IfOk result (λ made. made ≡ record { ct = ct; hops = hops; body = body }) }
     {
         if !(1..=5).contains(&hops) {

@@ -99,7 +99,7 @@ const REPLY: Exit = Exit::Reply {
 };
 
 #[test]
-fn commands_are_written_and_read_as_their_grammar_says(rt: HostRuntime) {
+fn commands_are_written_and_read_as_their_grammar_says(rt: HostRuntime) -> Result<(), Fail> {
     let rows = [
         (None, HOP, slot(&[&[1], &ID, &MAC])),
         (None, RECIPIENT, slot(&[&[2], &ID])),
@@ -120,11 +120,17 @@ fn commands_are_written_and_read_as_their_grammar_says(rt: HostRuntime) {
     for (delay, exit, bytes) in rows {
         let cmds = Cmds { delay, exit };
         assert_eq!(rt; read_cmds(&bytes), Some(cmds));
-        match delay {
-            Some(delay) if delay > 10_800_000 => {}
-            _ => assert_eq!(rt; write_cmds(&cmds), bytes),
+        if !cmds.is_allowed() {
+            return Err(Fail::from("a delay that is too long"));
         }
+        assert_eq!(rt; write_cmds(&cmds), bytes);
     }
+    let late = Cmds {
+        delay: Some(10_800_001),
+        exit: HOP,
+    };
+    assert!(rt; !late.is_allowed());
+    Ok(())
 }
 
 #[test]

@@ -2,7 +2,9 @@
 use Rattle.std.specs.Prelude.{ℕ, List, ◌∷◌, ◌++◌, take, drop, Option, Some, None, if◌then◌else◌}
 use Rattle.std.specs.Str.{bytes_eq}
 use Rattle.mix_base.specs.Suites.{KemScheme, SuiteMeaning}
-use Rattle.prim_std.specs.Primitives.{hmac, hop_keys, chacha_byte, word_bytes, first_words, lioness_encrypted, lioness_decrypted}
+use Rattle.mix_base.specs.WordStreams.{first_words, word_bytes}
+use Rattle.prim_std.specs.Primitives.{hmac}
+use Rattle.prim_std.specs.StandardParts.{standard_meaning}
 
 -- both keys of a pair: the next eight words
 unfoldable pub lab_key : (ℕ → ℕ) → List ℕ
@@ -38,13 +40,6 @@ lab_scheme = record {
   decapsulate = lab_opened;
 }
 
--- the laboratory suite
+-- the laboratory suite: this mechanism and the standard parts
 abbrev pub lab_meaning : SuiteMeaning
-lab_meaning = record {
-  kem = lab_scheme;
-  mac = hmac;
-  hop_keys = hop_keys;
-  stream = chacha_byte;
-  encrypt = lioness_encrypted;
-  decrypt = lioness_decrypted;
-}
+lab_meaning = standard_meaning lab_scheme

@@ -6,7 +6,7 @@ use Rattle.std.proofs.Common.{refl, ap, ◌∙◌, arith, eq-eqb}
 use Rattle.std.proofs.lemmas.List.{take_at, drop_at, length-append}
 use Rattle.mix_base.specs.Suites.{Agrees}
 use Rattle.prim_std.specs.Laboratory.{lab_check, lab_ciphertext, lab_opened, lab_scheme, lab_secret}
-use Rattle.prim_std.specs.Primitives.{word_bytes}
+use Rattle.mix_base.specs.WordStreams.{word_bytes}
 
 length-word_bytes : (words : List ℕ) → length (word_bytes words) ≡ 4 * length words
 length-word_bytes [] = refl

@@ -1,15 +1,10 @@
 -- The primitives of a suite, each a function on lists of bytes as its standard writes it.
 use Rattle.std.specs.Prelude.{ℕ, zero, suc, ◌+◌, ◌-◌, ◌/◌, ◌%◌, ◌^◌, List, [], ◌∷◌, ◌++◌, length, take, drop, replicate, slice_range, nat_lt, codes, if◌then◌else◌}
-use Rattle.std.specs.Int.{w32, byte_at, to_le_bytes}
-use Rattle.std.specs.List.{flat_map}
+use Rattle.std.specs.Int.{byte_at}
 use Rattle.sha2.specs.Sha256.{sha256}
 use Rattle.rand_chacha.specs.ChaCha.{word_at, key_of}
 use Rattle.mix_base.specs.ByteLists.{xor, xor_stream}
 use Rattle.mix_base.specs.declared.suites.HopKeys.{HopKeys}
-
--- the replay tag of a ciphertext: its SHA-256 (FIPS 180-4)
-abbrev pub replay_tag : List ℕ → List ℕ
-replay_tag ciphertext = sha256 ciphertext
 
 -- ---- HMAC-SHA-256 (RFC 2104, section 2)
 
@@ -56,15 +51,6 @@ chacha_word key place = word_at 10 (key_of key) 0 (place % 2 ^ 68)
 -- the byte at a place: each word gives four, the low byte first
 unfoldable pub chacha_byte : List ℕ → ℕ → ℕ
 chacha_byte key place = byte_at (place % 4) (chacha_word key (place / 4))
-
--- 32-bit words as bytes, each as four, the low byte first
-abbrev pub word_bytes : List ℕ → List ℕ
-word_bytes words = flat_map (to_le_bytes w32) words
-
--- the first n of the words to come
-unfoldable pub first_words : (ℕ → ℕ) → ℕ → List ℕ
-first_words words zero = []
-first_words words (suc n) = first_words words n ++ words n ∷ []
 
 -- ---- LIONESS (Anderson and Biham, 1996) on a block of 32 bytes and more, over ChaCha20 and HMAC-SHA-256
 

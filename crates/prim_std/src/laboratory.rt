@@ -2,12 +2,12 @@
 // public key can open what was made for it. Its calls never fail and take no memory.
 ghost use Rattle.std.specs.Prelude.{◌≡◌, ℕ, ◌+◌, ◌*◌, ◌∷◌, List, length, true, Some, None, IfOk, OnOk, IsOk, IsTrue, if◌then◌else◌, refl};
 ghost use Rattle.mix_base.specs.Suites.{Agrees};
-ghost use Rattle.mix_base.specs.WordStreams.{GoesOn};
-ghost use Rattle.prim_std.specs.Primitives.{hmac, word_bytes, first_words};
+ghost use Rattle.mix_base.specs.WordStreams.{GoesOn, SkipsWords};
+ghost use Rattle.prim_std.specs.Primitives.{hmac};
 ghost use Rattle.prim_std.specs.Laboratory.{lab_scheme, lab_meaning};
 
 use crate::{ChaCha, Hmac, HmacMac, LabelKdf, Lioness};
-use mix_base::{EncapFault, Kem, Memory, PairFault, Suite, Words};
+use mix_base::{EncapFault, Kem, Memory, PairFault, Suite, Words, draw, write_words};
 use std::alloc::Global;
 
 /// The laboratory mechanism: keys of 32 bytes, the public and the secret key the same, and a ciphertext of 48.
@@ -52,7 +52,7 @@ impl Kem for LabKem {
         // What is encapsulated to the public key is opened by the secret one.
         ensures agrees { Agrees lab_scheme pk.new sk.new }
         ensures words { GoesOn (W.to_come words.old) (W.to_come words.new) }
-        ensures eight_words { (place : ℕ) → W.to_come words.new place ≡ W.to_come words.old (8 + place) }
+        ensures eight_words { SkipsWords 8 (W.to_come words.old) (W.to_come words.new) }
     {
         let mut drawn = [0; 8];
         draw(words, &mut drawn);
@@ -114,26 +114,6 @@ fn code_behind(key: &[u8], first: u8, bytes: &[u8]) -> [u8; 32]
     code.add(&[first]);
     code.add(bytes);
     code.finish()
-}
-
-// Fills the list with the next words.
-fn draw<W: Words>(words: &mut W, drawn: &mut [u32])
-    ensures words { drawn.new ≡ first_words (W.to_come words.old) (length drawn.old) }
-    ensures rest { (place : ℕ) → W.to_come words.new place ≡ W.to_come words.old (length drawn.old + place) }
-{
-    'drawing: for i in 0..drawn.len() {
-        drawn[i] = words.next();
-    }
-}
-
-// Writes each word as four bytes, the low byte first.
-fn write_words(words: &[u32], out: &mut [u8])
-    requires { length out.old ≡ 4 * length words.now }
-    ensures { out.new ≡ word_bytes words.now }
-{
-    'words: for (i, word) in words.iter().enumerate() {
-        out[4 * i..4 * i + 4].copy_from_slice(&word.to_le_bytes());
-    }
 }
 
 /// The laboratory suite: the laboratory mechanism, HMAC-SHA-256, HKDF-Expand for the label, ChaCha20 and

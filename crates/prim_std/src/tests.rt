@@ -8,15 +8,9 @@ use std::alloc::Global;
 use std::process::Abort;
 use std::test::Fail;
 
-const DIGITS: &[u8; 16] = b"0123456789abcdef";
-
 // The bytes are those of the hexadecimal digits.
 fn expect_hex(rt: &impl Abort, alloc: Global, bytes: &[u8], want: &str) -> Result<(), Fail> {
-    let mut text = String::new(alloc);
-    for byte in bytes {
-        text.push(char::from(DIGITS[usize::from(*byte / 16)]))?;
-        text.push(char::from(DIGITS[usize::from(*byte % 16)]))?;
-    }
+    let text = hex::encode(alloc, bytes)?;
     assert_eq!(rt; text.as_str(), want);
     Ok(())
 }
@@ -248,6 +242,13 @@ fn parts_of<S: Suite>(secret: &[u8; 32], buf: &mut [u8], block: &mut [u8]) -> ([
     (S::M::tag(secret, b"Hi There"), S::D::expand(secret))
 }
 
+// The block decrypted by the suite's cipher.
+fn decrypted_by<S: Suite>(key: &[u8; 128], block: &mut [u8])
+    requires { 32 < length block.old }
+{
+    S::W::decrypt(key, block);
+}
+
 #[test]
 fn laboratory_parts(rt: HostRuntime) -> Result<(), Fail> {
     let alloc = rt.alloc();
@@ -285,7 +286,7 @@ fn laboratory_parts(rt: HostRuntime) -> Result<(), Fail> {
         &block,
         "872d42b51befea0c6de45304e386fe6ee8cb122999cb938c407489312bdf0ed7bd292edfb62bb9ddebe417e96d7239482f5803f291ac8fe52f66d6572bae37eca250973b6ffb",
     )?;
-    Lioness::decrypt(&counting::<128>(0), &mut block);
+    decrypted_by::<LabSuite>(&counting::<128>(0), &mut block);
     expect_hex(
         &rt,
         alloc,

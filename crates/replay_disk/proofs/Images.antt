@@ -5,7 +5,8 @@ use Rattle.std.proofs.lemmas.Bool.{cases_lt, cases_eq}
 use Rattle.std.proofs.lemmas.Bool.Decides.{nat_tests}
 use Rattle.std.specs.Prelude.{slice_index, ◌==◌}
 use Rattle.replay_disk.specs.Disk.{Range, Area, IsOutside, IsImage, IsTried, with_bytes}
-use Rattle.replay_disk.specs.MemoryRack.{Buffer, Write, ranges_of, laid, laid_by, torn, picked}
+use Rattle.replay_disk.specs.Kept.{Buffer, ranges_of}
+use Rattle.replay_disk.specs.MemoryRack.{Write, laid, laid_by, torn, picked}
 use Rattle.replay_disk.specs.MemoryDisk.{EndBy, IsWritten, area_of}
 use Rattle.replay_disk.proofs.Laying.{length-torn}
 use Rattle.replay_disk.proofs.Pending.{ranges_of-push}

@@ -5,7 +5,8 @@ use Rattle.std.proofs.lemmas.Bool.{cases_eq}
 use Rattle.std.proofs.lemmas.Bool.Decides.{nat_tests}
 use Rattle.std.specs.Prelude.{◌==◌, not}
 use Rattle.replay_disk.specs.Disk.{Range}
-use Rattle.replay_disk.specs.MemoryRack.{Write, write_at, ranges_of, without_area, picked}
+use Rattle.replay_disk.specs.Kept.{write_at, ranges_of}
+use Rattle.replay_disk.specs.MemoryRack.{Write, without_area, picked}
 use Rattle.replay_disk.specs.MemoryDisk.{EndBy}
 
 -- a write of the area ends by the limit

@@ -2,7 +2,8 @@
 use Rattle.std.proofs.Common.{◌≡◌, ◌≢◌, inl, inr, ℕ, zero, suc, ◌+◌, ◌-◌, ◌<◌, ◌≤◌, Bool, List, [], ◌∷◌, ◌++◌, length, get_or, refl, sym, ◌∙◌, ap, subst, arith, min}
 use Rattle.std.proofs.lemmas.Bool.{cases_eq}
 use Rattle.replay_disk.specs.Disk.{Range, Area, area_at, IsImage, IsTried, IsSynced, IsCrashed, ChangesOnly, ContentsAreImages, settled}
-use Rattle.replay_disk.specs.MemoryRack.{Buffer, Write, ranges_of, without_area, picked}
+use Rattle.replay_disk.specs.Kept.{Buffer, ranges_of}
+use Rattle.replay_disk.specs.MemoryRack.{Write, without_area, picked}
 use Rattle.replay_disk.specs.declared.memory_disk.MemDisk.{MemDisk}
 use Rattle.replay_disk.specs.MemoryDisk.{EndBy, IsReady, IsSound, IsWritten, IsSettled, OnlyLimit, ChangesBuffer, area_of, areas_of, buffer_at}
 use Rattle.replay_disk.proofs.Images.{image_tried, tried_written, image_picked}

@@ -1,5 +1,5 @@
--- The disk model: what contracts see of a rack's three areas, and what a crash may leave of one.
-use Rattle.std.specs.Prelude.{◌≡◌, ◌≢◌, ℕ, zero, suc, ◌+◌, ◌-◌, ◌<◌, ◌≤◌, min, max, List, [], ◌∷◌, ◌++◌, length, take, drop, slice_index, Result, OnOk, OnErr}
+-- The disk model: what contracts see of a rack's three areas, what a crash may leave of one, and what each call owes.
+use Rattle.std.specs.Prelude.{◌≡◌, ◌≢◌, ⊤, ℕ, zero, suc, ◌+◌, ◌-◌, ◌<◌, ◌≤◌, min, max, List, [], ◌∷◌, ◌++◌, length, take, drop, slice_index, Option, Some, None}
 use Rattle.mix_base.specs.Faults.{Rose}
 
 -- where a write went: its place and how many bytes it had
@@ -29,7 +29,7 @@ area_at (suc (suc n)) areas = areas.two
 
 -- no write since the last sync touched this place: where it is at or past a range's place, it is past its end
 abbrev pub IsOutside : ℕ → List Range → Type 0
-IsOutside place [] = Unit {0}
+IsOutside place [] = ⊤
 IsOutside place (range ∷ ranges) = (range.place ≤ place → range.place + range.size ≤ place) × IsOutside place ranges
 
 -- An image: bytes that a crash may leave of an area. Outside the written ranges they are as the last sync left
@@ -40,9 +40,13 @@ pub record IsImage (area : Area) (image : List ℕ) : Type 0 where
   pub outside : (place : ℕ) → place < length area.synced → place < length image → IsOutside place area.written
       → slice_index image place ≡ slice_index area.synced place
 
--- what a read gives is itself an image, in each area
+-- what a read gives of an area is itself an image of it
+abbrev pub ReadsAnImage : Areas → ℕ → Type 0
+ReadsAnImage areas area = IsImage (area_at area areas) (area_at area areas).contents
+
+-- and so in each area
 abbrev pub ContentsAreImages : Areas → Type 0
-ContentsAreImages areas = (area : ℕ) → area < 3 → IsImage (area_at area areas) (area_at area areas).contents
+ContentsAreImages areas = (area : ℕ) → area < 3 → ReadsAnImage areas area
 
 -- an area with these contents and nothing pending: its contents are its only image
 abbrev pub settled : List ℕ → Area
@@ -76,13 +80,25 @@ pub record ChangesOnly (area : ℕ) (Step : Area → Area → Type 0) (old new :
 abbrev pub IsCrashed : Areas → Areas → Type 0
 IsCrashed old new = (area : ℕ) → area < 3 → (image : List ℕ) × IsImage (area_at area old) image × (area_at area new ≡ settled image)
 
+-- At rest: an area's contents are its one image, so a crash leaves them.
+pub record IsAtRest (areas : Areas) (area : ℕ) : Type 0 where
+  pub image : ReadsAnImage areas area
+  pub only : (image : List ℕ) → IsImage (area_at area areas) image → image ≡ (area_at area areas).contents
+
+-- each of the three is at rest
+abbrev pub AreAtRest : Areas → Type 0
+AreAtRest areas = (area : ℕ) → area < 3 → IsAtRest areas area
+
 -- What contracts see of a rack: its areas now, and those of all its earlier moments, oldest first; how often it has
--- failed; how many bytes it can still be given; and the numbers that `arm` and `crash` were given.
+-- failed; how many bytes it can still be given; how many calls were made of it; how many are left before all fail,
+-- where it is armed; and the numbers that `arm` and `crash` were given.
 pub record RackState : Type 0 where
   pub areas : Areas
   pub past : List Areas
   pub faults : ℕ
   pub room : ℕ
+  pub calls : ℕ
+  pub left : Option ℕ
   pub arms : List ℕ
   pub crashes : List ℕ
 
@@ -90,16 +106,33 @@ pub record RackState : Type 0 where
 abbrev pub contents_of : ℕ → RackState → List ℕ
 contents_of area state = (area_at area state.areas).contents
 
--- A call that may fail: it fails just where the count of faults rises. Nobody arms or crashes the rack in it.
-pub record CountsFault {T E : Type 0} (old new : RackState) (result : Result T E) : Type 0 where
-  pub ok : OnOk result (new.faults ≡ old.faults)
-  pub failed : OnErr result (Rose old.faults new.faults)
+-- armed at the call of a number: that many less one are left, or fewer where it was armed already
+abbrev pub armed_at : ℕ → Option ℕ → Option ℕ
+armed_at number None = Some (number - 1)
+armed_at number (Some n) = Some (min n (number - 1))
+
+-- one call less is left
+abbrev pub one_less : Option ℕ → Option ℕ
+one_less None = None
+one_less (Some n) = Some (n - 1)
+
+-- no call was made, and nothing changed
+abbrev pub MadeNoCall : RackState → RackState → Type 0
+MadeNoCall old new = new ≡ old
+
+-- the rack was only read: nothing changed but its faults and its calls
+abbrev pub OnlyRead : RackState → RackState → Type 0
+OnlyRead old new = new ≡ record old { faults = new.faults; calls = new.calls; left = new.left }
+
+-- What each call owes that is lent a rack, `failed` where its answer is that the rack failed: the count of faults rose
+-- then, and in no other answer; at most so many calls were made of the rack; and nobody armed or crashed it.
+pub record Owes (most : ℕ) (failed : Type 0) (old new : RackState) : Type 0 where
+  pub rose : failed → Rose old.faults new.faults
+  pub no_fault : ¬ failed → new.faults ≡ old.faults
+  pub no_fewer : old.calls ≤ new.calls
+  pub calls : new.calls ≤ old.calls + most
   pub arms : new.arms ≡ old.arms
   pub crashes : new.crashes ≡ old.crashes
-
--- nothing changes but the count of faults
-abbrev pub OnlyFaults : RackState → RackState → Type 0
-OnlyFaults old new = new ≡ record old { faults = new.faults }
 
 -- a read of n bytes from a place: as many as there are, and as the buffer holds
 pub record ReadsFrom (place : ℕ) (contents old new : List ℕ) (n : ℕ) : Type 0 where

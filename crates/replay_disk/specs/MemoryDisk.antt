@@ -2,7 +2,8 @@
 use Rattle.std.specs.Prelude.{◌≡◌, ◌≢◌, ℕ, zero, suc, ◌+◌, ◌<◌, ◌≤◌, min, List, [], ◌∷◌, length, max, Bool, if◌then◌else◌}
 use Rattle.replay_disk.specs.declared.memory_disk.MemDisk.{MemDisk}
 use Rattle.replay_disk.specs.Disk.{Area, Areas, IsImage, with_bytes}
-use Rattle.replay_disk.specs.MemoryRack.{Buffer, Write, ranges_of}
+use Rattle.replay_disk.specs.Kept.{Buffer, ranges_of}
+use Rattle.replay_disk.specs.MemoryRack.{Write}
 
 -- an area, from its bytes and the pending writes
 abbrev pub area_of : ℕ → List Write → Buffer → Area

@@ -1,6 +1,6 @@
 -- The rack in memory: its pending writes, and which image of its areas a crash leaves.
-use Rattle.std.specs.Prelude.{ℕ, zero, suc, ◌+◌, ◌-◌, ◌/◌, ◌%◌, List, [], ◌∷◌, ◌++◌, length, take, replicate, slice_index_or, filter, not, ◌==◌, if◌then◌else◌}
-use Rattle.replay_disk.specs.Disk.{Range, RackState, settled, with_bytes}
+use Rattle.std.specs.Prelude.{None, ℕ, zero, suc, ◌+◌, ◌-◌, ◌/◌, ◌%◌, List, [], ◌∷◌, ◌++◌, length, take, replicate, filter, not, ◌==◌, if◌then◌else◌}
+use Rattle.replay_disk.specs.Disk.{RackState, settled, with_bytes}
 use Rattle.replay_disk.specs.Failing.{Failing}
 
 -- a write since the last sync of its area
@@ -9,33 +9,12 @@ pub record Write : Type 0 where
   pub place : ℕ
   pub bytes : List ℕ
 
--- the write of an index
-abbrev pub write_at : ℕ → List Write → Write
-write_at i writes = slice_index_or writes i (record { area = 0; place = 0; bytes = [] })
-
--- an area in memory: what a read gives, what its last sync left, the greatest length since, and the length up to
--- which it can grow without taking memory
-pub record Buffer : Type 0 where
-  pub contents : List ℕ
-  pub synced : List ℕ
-  pub greatest : ℕ
-  pub limit : ℕ
-
--- a list of writes, and for how many bytes more it has room
-pub record Writes : Type 0 where
-  pub list : List Write
-  pub spare : ℕ
-
--- what contracts see of a rack in memory: as of every rack, its pending writes in their order, and which calls fail
+-- what contracts see of a rack in memory: as of every rack, its pending writes in their order, and which single calls
+-- fail
 pub record MemState : Type 0 where
   pub rack : RackState
   pub pending : List Write
   pub failing : Failing
-
--- the ranges of an area's writes
-abbrev pub ranges_of : ℕ → List Write → List Range
-ranges_of area [] = []
-ranges_of area (write ∷ writes) = if write.area == area then record { place = write.place; size = length write.bytes } ∷ ranges_of area writes else ranges_of area writes
 
 -- the writes of the other areas
 abbrev pub without_area : ℕ → List Write → List Write
@@ -63,4 +42,4 @@ picked area pick (write ∷ writes) image = picked area (pick / 3) writes (if wr
 
 -- three areas at rest, in a rack to which nothing has happened
 abbrev pub at_first : List ℕ → List ℕ → List ℕ → RackState
-at_first root one two = record { areas = record { root = settled root; one = settled one; two = settled two }; past = []; faults = 0; room = 0; arms = []; crashes = [] }
+at_first root one two = record { areas = record { root = settled root; one = settled one; two = settled two }; past = []; faults = 0; room = 0; calls = 0; left = None; arms = []; crashes = [] }

@@ -2,9 +2,10 @@
 // first byte that was written since is kept apart, so a sync of an area that grew at its end costs nothing.
 ghost use Rattle.std.specs.Prelude.{◌≡◌, ℕ, ◌+◌, ◌-◌, ◌/◌, ◌<◌, ◌≤◌, ◌^◌, [], ◌++◌, length, take, drop, min, max, vec_capacity, vec_len, OnOk, replicate};
 ghost use Rattle.replay_disk.specs.Disk.{with_bytes, ReadsFrom};
-ghost use Rattle.replay_disk.specs.MemoryRack.{Buffer, laid, torn};
+ghost use Rattle.replay_disk.specs.Kept.{Buffer};
+ghost use Rattle.replay_disk.specs.MemoryRack.{laid, torn};
 
-use mix_base::Memory;
+use mix_base::{Memory, copy_front};
 use std::alloc::{AllocError, Global};
 use std::marker::Model;
 
@@ -19,7 +20,7 @@ pub struct MemArea {
 
 impl Model for MemArea {
     ghost use Rattle.std.specs.Prelude.{◌≤◌, ◌++◌, take, min, vec_len, vec_capacity};
-    ghost use Rattle.replay_disk.specs.MemoryRack.{Buffer};
+    ghost use Rattle.replay_disk.specs.Kept.{Buffer};
 
     ghost Value = { Buffer };
 
@@ -238,14 +239,4 @@ fn overwrite(target: &mut [u8], place: usize, bytes: &[u8])
     ensures { target.new ≡ with_bytes place bytes.now target.old }
 {
     target[place..place + bytes.len()].copy_from_slice(bytes);
-}
-
-/// Copies as many bytes as the buffer has room for, or all.
-fn copy_front(bytes: &[u8], buf: &mut [u8]) -> usize
-    ensures count { result ≡ min (length bytes.now) (length buf.old) }
-    ensures bytes { take result buf.new ≡ take result bytes.now }
-{
-    let count = bytes.len().min(buf.len());
-    buf[..count].copy_from_slice(&bytes[..count]);
-    count
 }

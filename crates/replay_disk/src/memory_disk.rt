@@ -2,7 +2,8 @@
 // writes was made before; which calls fail is decided above.
 ghost use Rattle.std.specs.Prelude.{◌≡◌, ℕ, ◌+◌, ◌-◌, ◌<◌, ◌≤◌, ◌%◌, ◌/◌, ◌^◌, [], ◌∷◌, ◌++◌, length, min, max, OnOk, ◌==◌, if◌then◌else◌};
 ghost use Rattle.replay_disk.specs.Disk.{area_at, ReadsFrom};
-ghost use Rattle.replay_disk.specs.MemoryRack.{Write, Buffer, without_area, picked, laid_by, write_at};
+ghost use Rattle.replay_disk.specs.Kept.{Buffer, write_at};
+ghost use Rattle.replay_disk.specs.MemoryRack.{Write, without_area, picked, laid_by};
 ghost use Rattle.replay_disk.specs.MemoryDisk.{areas_of, buffer_at, EndBy, IsWritten, IsSettled, OnlyLimit, ChangesBuffer};
 
 use super::memory_area::MemArea;

@@ -1,8 +1,9 @@
 // A rack in memory. It tells all that it holds, fails just at the calls that it was told to fail at, and crashes
 // by the digits of a pick.
 ghost use Rattle.std.specs.Prelude.{◌≡◌, ℕ, ◌+◌, ◌-◌, ◌<◌, ◌≤◌, ◌^◌, ◌↔◌, [], ◌∷◌, ◌++◌, length, Some, None, IfOk, OnOk, OnErr, IsErr, is_ok, if◌then◌else◌};
-ghost use Rattle.replay_disk.specs.Disk.{Range, area_at, contents_of, with_bytes, settled, ContentsAreImages, IsTried, IsSynced, IsCrashed, ChangesOnly, CountsFault, OnlyFaults, ReadsFrom};
-ghost use Rattle.replay_disk.specs.Failing.{FailsNext, after_call, armed_at};
+ghost use Rattle.replay_disk.specs.Disk.{Range, area_at, contents_of, with_bytes, settled, ContentsAreImages, IsTried, IsSynced, IsCrashed, ChangesOnly, OnlyRead, Owes, armed_at, one_less, ReadsFrom};
+ghost use Rattle.mix_base.specs.Faults.{one_more};
+ghost use Rattle.replay_disk.specs.Failing.{FailsNext, after_call};
 ghost use Rattle.replay_disk.specs.MemoryRack.{MemState, Write, at_first, without_area, picked};
 ghost use Rattle.replay_disk.specs.Moments.{PassesOne};
 
@@ -38,6 +39,8 @@ impl Model for MemRack {
         past = map areas_of r.past.items;
         faults = r.failures.faults;
         room = r.room;
+        calls = r.failures.calls;
+        left = r.failures.left;
         arms = r.arms.items;
         crashes = r.crashes.items;
       };
@@ -53,7 +56,7 @@ impl MemRack {
     pub fn new(alloc: Global) -> MemRack
         ensures rack { result.rack ≡ at_first [] [] [] }
         ensures pending { result.pending ≡ [] }
-        ensures failing { result.failing ≡ record { listed = []; calls = 0; left = None } }
+        ensures failing { result.failing ≡ record { listed = []; calls = 0 } }
     {
         MemRack::holding(alloc, Vec::new(alloc), Vec::new(alloc), Vec::new(alloc))
     }
@@ -62,7 +65,7 @@ impl MemRack {
     pub fn holding(alloc: Global, root: Vec<u8>, one: Vec<u8>, two: Vec<u8>) -> MemRack
         ensures rack { result.rack ≡ at_first root.items one.items two.items }
         ensures pending { result.pending ≡ [] }
-        ensures failing { result.failing ≡ record { listed = []; calls = 0; left = None } }
+        ensures failing { result.failing ≡ record { listed = []; calls = 0 } }
     {
         MemRack {
             disk: MemDisk::new(alloc, root, one, two),
@@ -76,7 +79,7 @@ impl MemRack {
 
     /// The calls of these numbers are to fail, counted from now from 1, and no others that were listed before.
     pub fn fail_at(&mut self, calls: Vec<u64>)
-        ensures { self.new ≡ record self.old { failing = record self.old.failing { listed = calls.items; calls = 0 } } }
+        ensures { self.new ≡ record self.old { failing = record { listed = calls.items; calls = 0 } } }
     {
         self.failures.list(calls);
     }
@@ -97,13 +100,17 @@ impl Rack for MemRack {
 
     fn length(&mut self, area: u8) -> Result<u64, Failed>
         ensures answer { IfOk result (λ n. n ≡ length (contents_of area self.old.rack)) }
-        ensures same { OnlyFaults self.old.rack self.new.rack }
+        ensures same { OnlyRead self.old.rack self.new.rack }
         ensures images { ContentsAreImages self.new.rack.areas }
-        ensures fault { CountsFault self.old.rack self.new.rack result }
+        ensures armed { self.old.rack.left ≡ Some 0 → IsErr result }
+        ensures countdown { self.new.rack.left ≡ one_less self.old.rack.left }
+        ensures owes { Owes 1 (IsErr result) self.old.rack self.new.rack }
 
-        // Just the calls that it was told to fail at fail.
-        ensures fails { IsErr result ↔ FailsNext self.old.failing }
+        // Just the calls that it was told to fail at fail, and each is one fault.
+        ensures fails { IsErr result ↔ FailsNext self.old.rack.left self.old.failing }
         ensures counted { self.new.failing ≡ after_call self.old.failing }
+        ensures calls { self.new.rack.calls ≡ self.old.rack.calls + 1 }
+        ensures one_fault { OnErr result (self.new.rack.faults ≡ one_more self.old.rack.faults) }
         ensures pending { self.new.pending ≡ self.old.pending }
     {
         self.failures.next()?;
@@ -113,13 +120,17 @@ impl Rack for MemRack {
     fn read(&mut self, area: u8, at: u64, buf: &mut [u8]) -> Result<usize, Failed>
         ensures within { IfOk result (λ n. n ≤ length buf.old) }
         ensures bytes { IfOk result (ReadsFrom at (contents_of area self.old.rack) buf.old buf.new) }
-        ensures same { OnlyFaults self.old.rack self.new.rack }
+        ensures same { OnlyRead self.old.rack self.new.rack }
         ensures images { ContentsAreImages self.new.rack.areas }
-        ensures fault { CountsFault self.old.rack self.new.rack result }
+        ensures armed { self.old.rack.left ≡ Some 0 → IsErr result }
+        ensures countdown { self.new.rack.left ≡ one_less self.old.rack.left }
+        ensures owes { Owes 1 (IsErr result) self.old.rack self.new.rack }
 
-        // Just the calls that it was told to fail at fail.
-        ensures fails { IsErr result ↔ FailsNext self.old.failing }
+        // Just the calls that it was told to fail at fail, and each is one fault.
+        ensures fails { IsErr result ↔ FailsNext self.old.rack.left self.old.failing }
         ensures counted { self.new.failing ≡ after_call self.old.failing }
+        ensures calls { self.new.rack.calls ≡ self.old.rack.calls + 1 }
+        ensures one_fault { OnErr result (self.new.rack.faults ≡ one_more self.old.rack.faults) }
         ensures pending { self.new.pending ≡ self.old.pending }
     {
         self.failures.next()?;
@@ -137,15 +148,19 @@ impl Rack for MemRack {
         ensures moment { PassesOne self.old.rack self.new.rack }
         ensures room { self.new.rack.room + length bytes.now ≡ self.old.rack.room }
         ensures images { ContentsAreImages self.new.rack.areas }
-        ensures fault { CountsFault self.old.rack self.new.rack result }
+        ensures armed { self.old.rack.left ≡ Some 0 → IsErr result }
+        ensures countdown { self.new.rack.left ≡ one_less self.old.rack.left }
+        ensures owes { Owes 1 (IsErr result) self.old.rack self.new.rack }
 
         // A write that failed leaves the contents, and is pending as one that was done.
         ensures left { OnErr result (contents_of area self.new.rack ≡ contents_of area self.old.rack) }
         ensures pending { self.new.pending ≡ self.old.pending ++ (record { area = area; place = at; bytes = bytes.now }) ∷ [] }
 
-        // Just the calls that it was told to fail at fail.
-        ensures fails { IsErr result ↔ FailsNext self.old.failing }
+        // Just the calls that it was told to fail at fail, and each is one fault.
+        ensures fails { IsErr result ↔ FailsNext self.old.rack.left self.old.failing }
         ensures counted { self.new.failing ≡ after_call self.old.failing }
+        ensures calls { self.new.rack.calls ≡ self.old.rack.calls + 1 }
+        ensures one_fault { OnErr result (self.new.rack.faults ≡ one_more self.old.rack.faults) }
     {
         let answer = self.failures.next();
         self.past.push(&self.disk);
@@ -161,14 +176,18 @@ impl Rack for MemRack {
         ensures moment { PassesOne self.old.rack self.new.rack }
         ensures room { self.new.rack.room ≡ self.old.rack.room }
         ensures images { ContentsAreImages self.old.rack.areas }
-        ensures fault { CountsFault self.old.rack self.new.rack result }
+        ensures armed { self.old.rack.left ≡ Some 0 → IsErr result }
+        ensures countdown { self.new.rack.left ≡ one_less self.old.rack.left }
+        ensures owes { Owes 1 (IsErr result) self.old.rack self.new.rack }
 
         // The area's writes are no longer pending, unless the call failed.
         ensures pending { self.new.pending ≡ (if is_ok result then without_area area self.old.pending else self.old.pending) }
 
-        // Just the calls that it was told to fail at fail.
-        ensures fails { IsErr result ↔ FailsNext self.old.failing }
+        // Just the calls that it was told to fail at fail, and each is one fault.
+        ensures fails { IsErr result ↔ FailsNext self.old.rack.left self.old.failing }
         ensures counted { self.new.failing ≡ after_call self.old.failing }
+        ensures calls { self.new.rack.calls ≡ self.old.rack.calls + 1 }
+        ensures one_fault { OnErr result (self.new.rack.faults ≡ one_more self.old.rack.faults) }
     {
         let answer = self.failures.next();
         self.past.push(&self.disk);
@@ -196,8 +215,11 @@ impl Rack for MemRack {
 impl CrashRack for MemRack {
     fn arm(&mut self, calls: u64)
         requires { 0 < calls }
-        ensures rack { self.new.rack ≡ record self.old.rack { arms = self.old.rack.arms ++ calls ∷ [] } }
-        ensures failing { self.new.failing ≡ record self.old.failing { left = armed_at calls self.old.failing.left } }
+        ensures rack { self.new.rack ≡ record self.old.rack {
+          left = armed_at calls self.old.rack.left;
+          arms = self.old.rack.arms ++ calls ∷ [];
+        } }
+        ensures failing { self.new.failing ≡ self.old.failing }
         ensures pending { self.new.pending ≡ self.old.pending }
     {
         self.failures.arm(calls);
@@ -208,14 +230,16 @@ impl CrashRack for MemRack {
         ensures image { IsCrashed self.old.rack.areas self.new.rack.areas }
         ensures moment { PassesOne self.old.rack self.new.rack }
         ensures faults { self.new.rack.faults ≡ self.old.rack.faults }
+        ensures calls { self.new.rack.calls ≡ self.old.rack.calls }
+        ensures left { self.new.rack.left ≡ None }
         ensures arms { self.new.rack.arms ≡ self.old.rack.arms }
         ensures crashes { self.new.rack.crashes ≡ self.old.rack.crashes ++ pick ∷ [] }
 
-        // The pick says which image is left; no longer armed.
+        // The pick says which image is left.
         ensures picked { (area : ℕ) → area < 3 →
             area_at area self.new.rack.areas ≡ settled (picked area pick self.old.pending (area_at area self.old.rack.areas).synced) }
         ensures pending { self.new.pending ≡ [] }
-        ensures failing { self.new.failing ≡ record self.old.failing { left = None } }
+        ensures failing { self.new.failing ≡ self.old.failing }
     {
         self.past.push(&self.disk);
         self.disk.crash(pick);

@@ -1,6 +1,7 @@
 // The pending writes of a rack in memory, in the order in which they were made, each with its area and place.
 ghost use Rattle.std.specs.Prelude.{◌≡◌, ℕ, ◌+◌, ◌-◌, ◌<◌, ◌≤◌, [], ◌∷◌, ◌++◌, length, filter, not, ◌==◌, min, vec_capacity, vec_len, OnOk};
-ghost use Rattle.replay_disk.specs.MemoryRack.{Write, Writes, write_at, without_area};
+ghost use Rattle.replay_disk.specs.Kept.{Writes, write_at};
+ghost use Rattle.replay_disk.specs.MemoryRack.{Write, without_area};
 ghost use Rattle.replay_disk.specs.WriteLog.{writes_of, AreMarked};
 
 use mix_base::Memory;
@@ -24,7 +25,7 @@ pub struct WriteLog {
 
 impl Model for WriteLog {
     ghost use Rattle.std.specs.Prelude.{◌-◌, min, vec_len, vec_capacity};
-    ghost use Rattle.replay_disk.specs.MemoryRack.{Writes};
+    ghost use Rattle.replay_disk.specs.Kept.{Writes};
     ghost use Rattle.replay_disk.specs.WriteLog.{writes_of, AreMarked};
 
     ghost Value = { Writes };

@@ -8,7 +8,7 @@ use Rattle.packet_form.specs.Geometry as lengths
 use Rattle.packet_form.specs.declared.commands.Exit.TheVariants.{Reply}
 use Rattle.sphinx_unwrap.specs.Layer.{Layer, opened}
 use Rattle.sphinx_unwrap.specs.Outcome.{out_by}
-use Rattle.sphinx_unwrap.specs.declared.fault.Refused.{Refused}
+use Rattle.sphinx_unwrap.specs.declared.faults.Refused.{Refused}
 use Rattle.sphinx_unwrap.specs.declared.outcome.Out.TheVariants as outs
 use Rattle.sphinx_make.specs.Making.{decrypted_along, keyed}
 use Rattle.sphinx_make.specs.NestedPath.{Arrives, Carries, Ends, GoesOut, KeyedHop}
@@ -17,7 +17,7 @@ use Rattle.reply_blocks.specs.Blocks.{Keys, block_of, first_id}
 use Rattle.reply_blocks.specs.Replies.{answer_payload, answered}
 use Rattle.reply_blocks.specs.WayBack.{ComesBack}
 use Rattle.reply_blocks.specs.declared.answering.Answered.{Answered}
-use Rattle.reply_blocks.specs.declared.fault.AnswerFault.{AnswerFault}
+use Rattle.reply_blocks.specs.declared.faults.AnswerFault.{AnswerFault}
 use Rattle.reply_blocks.proofs.BlockParts.{answered-block_of}
 use Rattle.reply_blocks.proofs.Undoing.{IsInvertible, length-answer_payload, opened_reply-answer}
 

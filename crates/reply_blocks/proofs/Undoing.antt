@@ -1,5 +1,5 @@
 -- What the hops and the answer did to a payload is undone.
-use Rattle.std.proofs.Common.{◌≡◌, ℕ, ◌+◌, ◌<◌, ◌++◌, List, [], ◌∷◌, length, replicate, Result, Ok, Err, None, MatchResult, refl, sym, ap, subst, ◌∙◌, arith}
+use Rattle.std.proofs.Common.{◌≡◌, ℕ, ◌+◌, ◌<◌, ◌++◌, List, [], ◌∷◌, length, replicate, Ok, None, refl, sym, ap, subst, ◌∙◌, arith}
 use Rattle.std.proofs.lemmas.List.{length-append, length-replicate}
 use Rattle.mix_base.specs.Suites.{SuiteMeaning}
 use Rattle.packet_form.specs.Geometry.{Sizes, block}
@@ -8,9 +8,7 @@ use Rattle.sphinx_unwrap.specs.Payload.{spell}
 use Rattle.sphinx_unwrap.proofs.Spelling.{body_of-spell}
 use Rattle.sphinx_make.specs.Making.{decrypted_along, encrypted_along}
 use Rattle.reply_blocks.specs.Blocks.{Keys}
-use Rattle.reply_blocks.specs.Replies.{GivesBody, answer_payload, body_in, opened_reply, undone}
-use Rattle.reply_blocks.specs.declared.fault.OpenFault.{OpenFault}
-use Rattle.reply_blocks.specs.declared.fault.OpenFault.TheVariants as faults
+use Rattle.reply_blocks.specs.Replies.{answer_payload, body_in, opened_reply, reply_payload, undone}
 
 -- what a suite's laws say of its wide block cipher
 pub record IsInvertible (suite : SuiteMeaning) : Type 0 where
@@ -40,7 +38,7 @@ length-answer_payload suite sizes own body laws long =
     omega (arith, laws.encrypted_length own spelled spelled_long, length-spell sizes body)
 
 -- what was answered with a body, and decrypted by the hops, is undone to the spelled body, and opens to the body
-undone-answer : (suite : SuiteMeaning) (sizes : Sizes) (keys : Keys) (body : List ℕ) → IsInvertible suite → undone suite keys (decrypted_along suite keys.hops (answer_payload suite sizes keys.own body)) ≡ spell sizes None body
+undone-answer : (suite : SuiteMeaning) (sizes : Sizes) (keys : Keys) (body : List ℕ) → IsInvertible suite → undone suite keys (reply_payload suite sizes keys body) ≡ spell sizes None body
 unfolding undone answer_payload
 undone-answer suite sizes keys body laws =
     let spelled : List ℕ = spell sizes None body in
@@ -53,14 +51,8 @@ body_in-spell : (sizes : Sizes) (body : List ℕ) → body_in sizes (spell sizes
 unfolding body_in
 body_in-spell sizes body = ap (λ (bytes : List ℕ). Ok bytes) (body_of-spell sizes None body tt)
 
-pub opened_reply-answer : (suite : SuiteMeaning) (sizes : Sizes) (keys : Keys) (body : List ℕ) → IsInvertible suite → opened_reply suite sizes keys (decrypted_along suite keys.hops (answer_payload suite sizes keys.own body)) ≡ Ok body
+pub opened_reply-answer : (suite : SuiteMeaning) (sizes : Sizes) (keys : Keys) (body : List ℕ) → IsInvertible suite → opened_reply suite sizes keys (reply_payload suite sizes keys body) ≡ Ok body
 opened_reply-answer suite sizes keys body laws = ap (body_in sizes) (undone-answer suite sizes keys body laws) ∙ body_in-spell sizes body
-
--- an opening that gives what the definition gives, where that is a body
-pub gives_body : {X : Type 0} (view : X → List ℕ) (result : Result X OpenFault) (value : Result (List ℕ) OpenFault) (body : List ℕ) → GivesBody view result value → value ≡ Ok body → MatchResult result (λ found. view found ≡ body) (λ why. why ≡ faults.Memory)
-gives_body view (Ok found) value body given e = cc
-gives_body view (Err faults.Memory) value body given e = refl
-gives_body view (Err faults.Damaged) value body given e = cc
 
 -- the laws, of a suite that is made of parts which have them
 pub is_invertible : (suite parts : SuiteMeaning) → suite ≡ parts → IsInvertible parts → IsInvertible suite

@@ -1,11 +1,12 @@
 -- A reply block: a header, the id of its first hop, and a wide key of its maker's own. Who has the block can answer
 -- without knowing the way.
 use Rattle.std.specs.Prelude.{ℕ, ◌+◌, List, [], ◌∷◌, ◌++◌, slice_range, drop, Result, Ok}
+use Rattle.mix_base.specs.Results.{◌>>=◌}
 use Rattle.mix_base.specs.Suites.{SuiteMeaning}
 use Rattle.packet_form.specs.Geometry.{Sizes, header}
 use Rattle.packet_form.specs.declared.commands.Exit.TheVariants.{Reply}
-use Rattle.sphinx_make.specs.Making.{made_header, ◌>>=◌}
-use Rattle.sphinx_make.specs.declared.fault.MakeFault.{MakeFault}
+use Rattle.sphinx_make.specs.Making.{made_header}
+use Rattle.sphinx_make.specs.declared.faults.MakeFault.{MakeFault}
 use Rattle.sphinx_make.specs.declared.path.HopSpec.{HopSpec}
 use Rattle.reply_blocks.specs.declared.blocks.BlockKeys.{BlockKeys}
 

@@ -1,8 +1,10 @@
 // Answers: a body goes into the payload under the block's own key, behind the block's header.
-ghost use Rattle.std.specs.Prelude.{◌≡◌, ◌<◌, ℕ, ◌++◌, List, length, IfOk};
+ghost use Rattle.std.specs.Prelude.{◌≡◌, ◌≢◌, ◌<◌, ◌↔◌, length, IfOk, IsErrOf};
+ghost use Rattle.mix_base.specs.Results.{Gives};
 ghost use Rattle.packet_form.specs.Geometry as lengths;
-ghost use Rattle.reply_blocks.specs.Blocks.{block_of, first_in, header_in, own_in};
-ghost use Rattle.reply_blocks.specs.Replies.{GivesAnswer, answer_payload, answer_to, answered};
+ghost use Rattle.reply_blocks.specs.Blocks.{first_in, header_in, own_in};
+ghost use Rattle.reply_blocks.specs.Faults.{answer_cause};
+ghost use Rattle.reply_blocks.specs.Replies.{AnswersParts, answer_payload, answer_to, answered};
 
 use crate::AnswerFault;
 use mix_base::{Bytes, Suite, Wide};
@@ -28,9 +30,14 @@ pub fn answer<S: Suite>(
     body: &[u8],
 ) -> Result<Answered, AnswerFault>
     // The id and the bytes of the definition, or its refusal.
-    ensures exact { GivesAnswer result (answered S.meaning geo.now block.now body.now) }
+    ensures exact { Gives answer_cause result (answered S.meaning geo.now block.now body.now) }
+    // Both refusals come whether or not there is memory.
+    ensures block_length { IsErrOf result AnswerFault.BlockLength ↔
+        (length block.now ≢ lengths.block geo.now) }
+    ensures body_length { IsErrOf result AnswerFault.BodyLength ↔
+        ((length block.now ≡ lengths.block geo.now) × (length body.now ≢ geo.now.body)) }
     // To a block of three parts: the id, and the header with the body under the own key.
-    ensures parts { IfOk result (λ made. (header first own : List ℕ) → length header ≡ lengths.header geo.now → length first ≡ 32 → block.now ≡ block_of header first own → made ≡ record { first = first; packet = header ++ answer_payload S.meaning geo.now own body.now }) }
+    ensures parts { IfOk result (AnswersParts S.meaning geo.now block.now body.now) }
     ensures length { IfOk result (λ made. length made.packet ≡ lengths.packet geo.now) }
 {
     if block.len() != geo.block() {
@@ -51,7 +58,8 @@ fn join_answer<S: Suite>(
 ) -> Result<Answered, AllocError>
     requires block { length block.now ≡ lengths.block geo.now }
     requires body { length body.now ≡ geo.now.body }
-    ensures value { IfOk result (λ made. made ≡ answer_to S.meaning geo.now block.now body.now) }
+    ensures value { IfOk result (λ made.
+        made ≡ answer_to S.meaning geo.now block.now body.now) }
     ensures length { IfOk result (λ made. length made.packet ≡ lengths.packet geo.now) }
 {
     let (header, first, own) = parts_of(geo, block);
@@ -91,7 +99,8 @@ fn seal_body<S: Suite>(
     body: &[u8],
 ) -> Result<Vec<u8>, AllocError>
     requires { length body.now ≡ geo.now.body }
-    ensures value { IfOk result (λ payload. payload.items ≡ answer_payload S.meaning geo.now own.now body.now) }
+    ensures value { IfOk result (λ payload.
+        payload.items ≡ answer_payload S.meaning geo.now own.now body.now) }
     ensures length { IfOk result (λ payload. length payload.items ≡ lengths.payload geo.now) }
 {
     let payload = spell_payload(alloc, geo, body, None)?;

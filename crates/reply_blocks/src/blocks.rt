@@ -1,13 +1,15 @@
 // Blocks: a header whose last hop finds a recipient and a reply id, the id of the first hop, and a key of the maker's
 // own. What a block is for is a law: an answer to it comes back and opens.
-ghost use Rattle.std.specs.Prelude.{◌≡◌, ℕ, ◌+◌, ◌*◌, ◌++◌, List, length, IfOk, IsOkAnd};
+ghost use Rattle.std.specs.Prelude.{◌≡◌, ◌+◌, ◌*◌, length, Err, IfOk, IsErrOf};
+ghost use Rattle.mix_base.specs.Results.{GivesAs};
 ghost use Rattle.packet_form.specs.Geometry as lengths;
 ghost use Rattle.packet_form.specs.declared.commands.Exit.TheVariants.{Reply};
-ghost use Rattle.sphinx_make.specs.Making.{AllAgree, GivesAs, decrypted_along, keyed};
-ghost use Rattle.sphinx_make.specs.NestedPath.{Carries};
+ghost use Rattle.sphinx_make.specs.Carrying.{CarriesEachPayload};
+ghost use Rattle.sphinx_make.specs.Faults.{cause_of};
+ghost use Rattle.sphinx_make.specs.Making.{checked};
+ghost use Rattle.sphinx_make.specs.declared.faults.MakeFault.{MakeFault};
 ghost use Rattle.reply_blocks.specs.Blocks.{block_of, header_in, keys_seen, made_block};
-ghost use Rattle.reply_blocks.specs.Replies.{answered};
-ghost use Rattle.reply_blocks.specs.WayBack.{ComesBack};
+ghost use Rattle.reply_blocks.specs.WayBack.{EachAnswerComesBack};
 
 use mix_base::{Bytes, Suite};
 use packet_form::{Exit, Geometry};
@@ -47,13 +49,19 @@ pub fn make_block<S: Suite>(
     requires coins { length coins.now ≡ length path.now * S.K.COINS }
 
     // The bytes and keys of the definition, or its refusal.
-    ensures exact { GivesAs (λ made. (made.block, keys_seen made.keys)) result (made_block S.meaning geo.now path.now recipient.now surb.now own.now coins.now) }
+    ensures exact { GivesAs cause_of (λ made. (made.block, keys_seen made.keys)) result
+        (made_block S.meaning geo.now path.now recipient.now surb.now own.now coins.now) }
+    // What is refused for the path's length or a delay is refused whether or not there is memory.
+    ensures at_once { (why : MakeFault) → checked geo.now path.now ≡ Err why → IsErrOf result why }
     // Where secret keys agree with the path's, a payload behind the block's header is carried along to the reply's
-    // commands, decrypted by the wide keys.
-    ensures carries { IfOk result (λ made. (secrets : List (List ℕ)) (payload : List ℕ) → AllAgree S.meaning.kem path.now secrets → length payload ≡ lengths.payload geo.now → Carries S.meaning geo.now (keyed path.now secrets) (Reply recipient.now surb.now) (header_in geo.now made.block ++ payload) (decrypted_along S.meaning made.keys.hops.items payload)) }
+    // commands.
+    ensures carries { IfOk result (λ made.
+        let last = Reply recipient.now surb.now in let header = header_in geo.now made.block in
+        CarriesEachPayload S.meaning geo.now path.now last header made.keys.hops.items) }
     ensures length { IfOk result (λ made. length made.block ≡ lengths.block geo.now) }
     // The same keys agree: the answer with whatever body goes along the path, and opens to this body.
-    ensures comes_back { IfOk result (λ made. (secrets : List (List ℕ)) (body : List ℕ) → AllAgree S.meaning.kem path.now secrets → length body ≡ geo.now.body → IsOkAnd (answered S.meaning geo.now made.block body) (ComesBack S.meaning geo.now path.now secrets recipient.now surb.now (keys_seen made.keys) body)) }
+    ensures comes_back { IfOk result (λ made. EachAnswerComesBack S.meaning geo.now path.now
+        recipient.now surb.now made.block (keys_seen made.keys)) }
 {
     let Some((first, _)) = path.split_first() else {
         return Err(MakeFault::PathLength);

@@ -4,12 +4,12 @@
 
 mod answering;
 mod blocks;
-mod fault;
+mod faults;
 mod opening;
 #[cfg(test)]
 mod tests;
 
 pub use answering::{Answered, answer};
 pub use blocks::{BlockKeys, MadeBlock, make_block};
-pub use fault::{AnswerFault, OpenFault};
+pub use faults::{AnswerFault, OpenFault};
 pub use opening::open_reply;

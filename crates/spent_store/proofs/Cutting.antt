@@ -96,7 +96,7 @@ cut_logs one two first second (epoch ∷ epochs) is_one is_two =
     (λ used. is_two (or_second (area_of epoch == 2) (list_any (λ e. area_of e == 2) epochs) used)) in
     λ i. here i ∷ later i
 
-chunk_count : (size count : ℕ) (joined : List ℕ) → length (first_chunks size count joined) ≡ count
+pub chunk_count : (size count : ℕ) (joined : List ℕ) → length (first_chunks size count joined) ≡ count
 chunk_count size zero joined = refl
 chunk_count size (suc count) joined = ap suc (chunk_count size count (drop size joined))
 

@@ -2,12 +2,12 @@
 -- are told apart, and what claims leave on a disk is read as they left it.
 use Rattle.std.proofs.Common.{◌≡◌, ℕ, true, List, [], ◌∷◌, ◌++◌, replicate, None, Some, Ok, Err, refl}
 use Rattle.std.specs.Int.{to_be_bytes, w64}
-use Rattle.mix_base.specs.declared.suites.Shape.{Shape}
+use Rattle.mix_base.specs.declared.shards.Shape.{Shape}
 use Rattle.spent_store.specs.Books.{StoredBook, book_of, spent}
 use Rattle.spent_store.specs.Changes.{raised, claimed, made}
 use Rattle.spent_store.specs.Journals.{claim_refusal, is_root_full}
-use Rattle.spent_store.specs.declared.answers.ClaimFault.TheVariants.{Retired, Spent, ShardFull}
-use Rattle.spent_store.specs.declared.objections.Objection.TheVariants.{Foreign, OtherShape}
+use Rattle.spent_store.specs.declared.faults.ClaimFault.TheVariants.{Retired, Spent, ShardFull}
+use Rattle.spent_store.specs.declared.faults.Objection.TheVariants.{Foreign, OtherShape}
 use Rattle.spent_store.specs.declared.root.RootRecord.TheVariants.{Made, Begin, Floor}
 
 abbrev shape_of : ℕ → ℕ → Shape
@@ -105,25 +105,25 @@ abbrev fresh : StoredBook
 fresh = made (shape_of 1 0) empty_book
 
 -- a claim of epoch 1 where 0 is the least live: area 2 has the tag
-claimed_one : book_of (made_for_one ++ written 2 1 ++ end) [] (1 ∷ tag_A ++ end) (shape_of 1 0) limit ≡ Ok (claimed 1 tag_A 0 fresh)
+claimed_one : book_of (made_for_one ++ written 2 1 ++ end) [] (1 ∷ tag_A ++ end) (shape_of 1 0) limit ≡ Ok (claimed 1 (tag_A ∷ []) 0 fresh)
 claimed_one = refl
 
 -- a claim of epoch 5 where 5 is the least live
-claimed_five : book_of (made_for_one ++ written 3 5 ++ written 2 5 ++ end) end (1 ∷ tag_A ++ end) (shape_of 1 0) limit ≡ Ok (claimed 5 tag_A 5 fresh)
+claimed_five : book_of (made_for_one ++ written 3 5 ++ written 2 5 ++ end) end (1 ∷ tag_A ++ end) (shape_of 1 0) limit ≡ Ok (claimed 5 (tag_A ∷ []) 5 fresh)
 claimed_five = refl
 
-then_four : claim_refusal limit 4 tag_B 4 (claimed 5 tag_A 5 fresh) ≡ Some (Retired 5)
+then_four : claim_refusal limit 4 tag_B 4 (claimed 5 (tag_A ∷ []) 5 fresh) ≡ Some (Retired 5)
 then_four = refl
 
 -- ---- a store whose logs have at most two records
 
 abbrev two_spent : StoredBook
-two_spent = claimed 0 tag_B 0 (claimed 0 tag_A 0 fresh)
+two_spent = claimed 0 (tag_B ∷ []) 0 (claimed 0 (tag_A ∷ []) 0 fresh)
 
 first_is_taken : claim_refusal 2 0 tag_A 0 fresh ≡ None
 first_is_taken = refl
 
-second_is_taken : claim_refusal 2 0 tag_B 0 (claimed 0 tag_A 0 fresh) ≡ None
+second_is_taken : claim_refusal 2 0 tag_B 0 (claimed 0 (tag_A ∷ []) 0 fresh) ≡ None
 second_is_taken = refl
 
 log_full : claim_refusal 2 0 (replicate 32 12) 0 two_spent ≡ Some ShardFull
@@ -146,5 +146,5 @@ counted = refl
 
 -- ---- a floor that rises drops what is below it
 
-both_live : raised 1 (claimed 1 tag_B 0 (claimed 0 tag_A 0 fresh)) ≡ record { floor = 1; logs = record { epoch = 1; tags = tag_B ∷ [] } ∷ []; roots = Made 256 ∷ Begin 0 ∷ Begin 1 ∷ Floor 1 ∷ [] }
+both_live : raised 1 (claimed 1 (tag_B ∷ []) 0 (claimed 0 (tag_A ∷ []) 0 fresh)) ≡ record { floor = 1; logs = record { epoch = 1; tags = tag_B ∷ [] } ∷ []; roots = Made 256 ∷ Begin 0 ∷ Begin 1 ∷ Floor 1 ∷ [] }
 both_live = refl

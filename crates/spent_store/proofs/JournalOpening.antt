@@ -1,30 +1,22 @@
 -- What an opening makes of an unsound journal.
-use Rattle.std.proofs.Common.{◌≡◌, inl, inr, ℕ, ◌<◌, List, [], ◌∷◌, ◌++◌, map, Contains, Option, Some, None, Result, Ok, Err, refl, sym, ◌∙◌, ap, subst, arith}
+use Rattle.std.proofs.Common.{◌≡◌, inl, inr, ℕ, List, [], ◌∷◌, ◌++◌, map, Contains, Some, Result, Ok, Err, refl, sym, ap, subst, arith}
 use Rattle.std.specs.Result.{IfOk, IfErr, result_err}
-use Rattle.mix_base.specs.declared.suites.Shape.{Shape}
+use Rattle.std.proofs.lemmas.List.Elements.{Contains-append_left, Contains-append_right}
+use Rattle.mix_base.specs.declared.shards.Shape.{Shape}
 use Rattle.replay_disk.specs.Disk.{Areas, ContentsAreImages}
-use Rattle.spent_store.specs.Answers.{Refuses}
+use Rattle.spent_store.specs.Faults.{Refuses}
 use Rattle.spent_store.specs.Books.{StoredBook}
 use Rattle.spent_store.specs.Changes.{made, made_where_read}
-use Rattle.spent_store.specs.Journals.{Journal, Opened, Opens, sound_with, unsound_with, unopened}
-use Rattle.spent_store.specs.Stores.{StoreState, Stands, Left, OpensToOneOf, OpensFrom, OpensJournal, as_read, book_in, opened, opening_of}
-use Rattle.spent_store.specs.declared.answers.OpenStore.{OpenStore}
-use Rattle.spent_store.specs.declared.answers.OpenStore.TheVariants as answer
-use Rattle.spent_store.specs.declared.objections.Objection.{Objection}
-use Rattle.spent_store.specs.declared.objections.Objection.TheVariants.{Foreign, OtherShape}
-use Rattle.spent_store.proofs.Stages.{standing, contains_front, contains_tail, cons_cases}
-
-contains_back : {X : Type 0} (xs ys : List X) (x : X) → Contains ys x → Contains (xs ++ ys) x
-contains_back [] ys x there = there
-contains_back (y ∷ xs) ys x there = contains_tail y (xs ++ ys) x (contains_back xs ys x there)
-
-contains_map : {X Y : Type 0} (f : X → Y) (xs : List X) (x : X) → Contains xs x → Contains (map f xs) (f x)
-contains_map f [] x there = absurd (let within = there.1 in omega arith)
-contains_map f (y ∷ xs) x there =
-    elim (cons_cases y xs x there.0 there.1 there.2) [
-      | inl is ↦ (0, omega arith, ap f is)
-      | inr later ↦ contains_tail (f y) (map f xs) (f x) (contains_map f xs x later)
-    ]
+use Rattle.spent_store.specs.Journals.{sound_with, unsound_with, unopened}
+use Rattle.spent_store.specs.Found.{NothingNew}
+use Rattle.spent_store.specs.Stores.{StoreState, Stands, OpensToOneOf, OpensFrom, IsOpening, as_read, book_in, opened}
+use Rattle.spent_store.proofs.Finding.{from_nothing}
+use Rattle.spent_store.specs.declared.faults.OpenStore.{OpenStore}
+use Rattle.spent_store.specs.declared.faults.OpenStore.TheVariants as answer
+use Rattle.spent_store.specs.declared.faults.Objection.{Objection}
+use Rattle.spent_store.specs.declared.faults.Objection.TheVariants.{Foreign, OtherShape}
+use Rattle.mix_base.proofs.Members.{Contains-map}
+use Rattle.spent_store.proofs.Stages.{standing}
 
 module _ (shape : Shape) (limit : ℕ) (old now : Areas) (images : ContentsAreImages old) (books : List (Result StoredBook Objection)) (covers : OpensToOneOf shape limit books old) where
   abbrev read : Result StoredBook Objection
@@ -40,10 +32,10 @@ module _ (shape : Shape) (limit : ℕ) (old now : Areas) (images : ContentsAreIm
       let before = from left in
       let there = covers before.0 in
       elim before.1 [
-        | inl same ↦ subst (λ (outcome : Result StoredBook Objection). Contains (books ++ map (made_where_read shape) books) outcome) (sym same) (contains_front books (map (made_where_read shape) books) (opened shape limit old before.0) there)
+        | inl same ↦ subst (λ (outcome : Result StoredBook Objection). Contains (books ++ map (made_where_read shape) books) outcome) (sym same) (Contains-append_left books (map (made_where_read shape) books) (opened shape limit old before.0) there)
         | inr is_made ↦
             subst (λ (outcome : Result StoredBook Objection). Contains (books ++ map (made_where_read shape) books) outcome) (sym is_made)
-            (contains_back books (map (made_where_read shape) books) (made_where_read shape (opened shape limit old before.0)) (contains_map (made_where_read shape) books (opened shape limit old before.0) there))
+            (Contains-append_right books (map (made_where_read shape) books) (made_where_read shape (opened shape limit old before.0)) (Contains-map (made_where_read shape) books (opened shape limit old before.0) there))
       ]
 
   objected : (objection : Objection) (outcome : Result StoredBook Objection) → outcome ≡ read → result_err outcome ≡ Some objection → Contains books (Err objection)
@@ -56,17 +48,47 @@ module _ (shape : Shape) (limit : ℕ) (old now : Areas) (images : ContentsAreIm
   opened_book store (Ok book) is given = (book, subst (λ (r : Result StoredBook Objection). Contains books r) (sym is) found, cc)
   opened_book store (Err objection) is given = absurd (cc)
 
-  pub journal_opened : (store : StoreState) → store.shape ≡ shape → store.limit ≡ limit → made_where_read shape read ≡ Ok store.book → Stands store now
-      → (journal : Journal) × Opens shape (unsound_with books) Opened journal × OpensToOneOf shape limit journal.books now
+  pub journal_opened : (store : StoreState) → store.shape ≡ shape → store.limit ≡ limit → made_where_read shape read ≡ Ok store.book → Stands store now → IsOpening shape limit books (Ok store) now
   journal_opened store is_shape is_limit given stands =
       let one = opened_book store read refl given in
       let stood = subst (λ (l : ℕ). OpensToOneOf shape l (as_read (store.book ∷ [])) now) is_limit (subst (λ (s : Shape). OpensToOneOf s store.limit (as_read (store.book ∷ [])) now) is_shape (standing store now stands)) in
-      (sound_with (made shape one.0), (one.0, one.1, refl), subst (λ (book : StoredBook). OpensToOneOf shape limit (as_read (book ∷ [])) now) one.2 stood)
+      record { journal = sound_with store.book; opens = (one.0, one.1, ap sound_with one.2); of_store = refl; covers = stood }
 
-  pub journal_left : {T : Type 0} (result : Result T OpenStore) → IfOk result (λ _. ⊥) → IfErr result (λ fault. Refuses fault (result_err read)) → OpensFrom shape limit old now
-      → (journal : Journal) × Opens shape (unsound_with books) (opening_of result) journal × OpensToOneOf shape limit journal.books now
-  journal_left (Ok store) never refuses from = absurd never
-  journal_left (Err (answer.Foreign area at)) never refuses from = (unopened shape (unsound_with books), (objected (Foreign area at) read refl refuses, refl), left_unopened from)
-  journal_left (Err (answer.OtherShape stored)) never refuses from = (unopened shape (unsound_with books), (objected (OtherShape stored) read refl refuses, refl), left_unopened from)
-  journal_left (Err answer.Failed) never refuses from = (unopened shape (unsound_with books), refl, left_unopened from)
-  journal_left (Err answer.Memory) never refuses from = (unopened shape (unsound_with books), refl, left_unopened from)
+  -- nothing was written
+  pub journal_kept : (result : Result StoreState OpenStore) → IfOk result (λ _. ⊥) → IfErr result (λ fault. Refuses fault (result_err read)) → (epochs : List ℕ) → NothingNew epochs old now → IsOpening shape limit books result now
+  journal_kept (Ok store) never refuses epochs nothing = absurd never
+  journal_kept (Err (answer.Foreign area at)) never refuses epochs nothing = record {
+    journal = unopened shape (unsound_with books);
+    opens = (objected (Foreign area at) read refl refuses, refl);
+    of_store = tt;
+    covers = left_unopened (from_nothing shape limit epochs old now nothing);
+  }
+  journal_kept (Err (answer.OtherShape stored)) never refuses epochs nothing = record {
+    journal = unopened shape (unsound_with books);
+    opens = (objected (OtherShape stored) read refl refuses, refl);
+    of_store = tt;
+    covers = left_unopened (from_nothing shape limit epochs old now nothing);
+  }
+  journal_kept (Err answer.Failed) never refuses epochs nothing = record {
+    journal = unopened shape (unsound_with books);
+    opens = refl;
+    of_store = tt;
+    covers = left_unopened (from_nothing shape limit epochs old now nothing);
+  }
+  journal_kept (Err answer.Memory) never refuses epochs nothing = record {
+    journal = unsound_with books;
+    opens = refl;
+    of_store = tt;
+    covers = λ left. covers (record {
+      root = left.root;
+      one = left.one;
+      two = left.two;
+      is_root = nothing.images 0 (omega arith) left.root left.is_root;
+      is_one = nothing.images 1 (omega arith) left.one left.is_one;
+      is_two = nothing.images 2 (omega arith) left.two left.is_two;
+    });
+  }
+
+  -- the rack failed in a write
+  pub journal_failed : OpensFrom shape limit old now → IsOpening shape limit books (Err answer.Failed) now
+  journal_failed from = record { journal = unopened shape (unsound_with books); opens = refl; of_store = tt; covers = left_unopened from }

@@ -4,7 +4,7 @@ use Rattle.std.proofs.lemmas.List.{length-map}
 use Rattle.spent_store.specs.Books.{EpochLog, amiss}
 use Rattle.spent_store.specs.Root.{AreNear, floor_of, begun_of}
 use Rattle.spent_store.specs.declared.root.RootRecord.{RootRecord}
-use Rattle.spent_store.specs.NearLaws.{begun_near}
+use Rattle.spent_store.proofs.NearLaws.{begun_near}
 
 -- of the floor and the epoch above it alone
 pub logs_near : (roots : List RootRecord) (begun : List ℕ) (floor : ℕ) (logs : List EpochLog) → amiss roots ≡ None → floor ≡ floor_of roots → begun ≡ begun_of roots

@@ -5,14 +5,14 @@ use Rattle.std.proofs.lemmas.Bool.{cases_Bool, cases_eq, cases_lt, lt-leb, lt-lt
 use Rattle.std.proofs.lemmas.List.{length-append, map-append}
 use Rattle.std.proofs.lemmas.List.Sums.{sum_by-cons}
 use Rattle.gate_log.specs.Log.{LogState}
-use Rattle.spent_store.specs.Books.{StoredBook, EpochLog, has_begun, is_spent}
-use Rattle.spent_store.specs.Changes.{raised, begun_with, added, log_with, claimed}
-use Rattle.spent_store.specs.ClaimLaws.{pair_count, count_here, count_elsewhere, raised_roots, raised_below, begun_roots, has_begun-raised}
+use Rattle.spent_store.specs.Books.{StoredBook, EpochLog, distinct_count, has_begun, is_spent}
+use Rattle.spent_store.specs.Changes.{raised, begun_with, added, log_with}
+use Rattle.spent_store.proofs.ClaimLaws.{pair_count, count_here, count_elsewhere, raised_roots, raised_below, begun_roots, has_begun-raised}
 use Rattle.spent_store.specs.Journals.{is_full, claim_refusal}
 use Rattle.spent_store.specs.Kept.{IsOfStore, IsRootOf, AreOfStore, AreNearLogs, book_with}
-use Rattle.spent_store.specs.NearLaws.{near_kept}
+use Rattle.spent_store.proofs.NearLaws.{near_kept}
 use Rattle.spent_store.specs.Root.{AreNear}
-use Rattle.spent_store.specs.declared.answers.ClaimFault.TheVariants.{ShardFull}
+use Rattle.spent_store.specs.declared.faults.ClaimFault.TheVariants.{ShardFull}
 use Rattle.spent_store.specs.declared.root.RootRecord.{RootRecord}
 use Rattle.spent_store.specs.declared.root.RootRecord.TheVariants.{Begin, Floor}
 use Rattle.spent_store.specs.TagLogs.{TagLogState, epoch_log}
@@ -29,6 +29,10 @@ pub same_logs : (logs : List TagLogState) (i : ℕ) (old log : TagLogState) → 
 same_logs [] i old log within is same = absurd (omega arith)
 same_logs (first ∷ logs) zero old log within is same = λ j. (same ∙ ap epoch_log is) j ∷ map epoch_log logs
 same_logs (first ∷ logs) (suc i) old log within is same = ap (λ (rest : List EpochLog). epoch_log first ∷ rest) (same_logs logs i old log (omega arith) is same)
+
+pub all_with : {X : Type 0} (P : X → Type 0) (xs : List X) (x : X) → AllByRecursion P xs → P x → AllByRecursion P (xs ++ x ∷ [])
+all_with P [] x all here = (here, tt)
+all_with P (y ∷ ys) x all here = (all.0, all_with P ys x all.1 here)
 
 pub all_set : {X : Type 0} (P : X → Type 0) (xs : List X) (i : ℕ) (x : X) → AllByRecursion P xs → P x → AllByRecursion P (set xs i x)
 all_set P [] i x all here = tt
@@ -131,33 +135,33 @@ pub near_set : (floor : ℕ) (logs : List TagLogState) (i : ℕ) (old log : TagL
 near_set floor logs i old log within is same near = subst (λ (epochs : List ℕ). AreNear floor epochs) (sym (set_epochs logs i old log within is same)) near
 
 -- the log of another epoch stays
-log_stays : (epoch : ℕ) (tag : List ℕ) (log : EpochLog) → (log.epoch ≡ epoch → ⊥) → log_with epoch tag log ≡ log
-log_stays epoch tag log differ = rw (ne_eqb log.epoch epoch differ) refl
+log_stays : (epoch : ℕ) (tags : List (List ℕ)) (log : EpochLog) → (log.epoch ≡ epoch → ⊥) → log_with epoch tags log ≡ log
+log_stays epoch tags log differ = rw (ne_eqb log.epoch epoch differ) refl
 
-log_longer : (epoch : ℕ) (tag : List ℕ) (log : EpochLog) → log.epoch ≡ epoch → log_with epoch tag log ≡ record { epoch = log.epoch; tags = log.tags ++ tag ∷ [] }
-log_longer epoch tag log same = rw (eq-eqb log.epoch epoch same) refl
+log_longer : (epoch : ℕ) (tags : List (List ℕ)) (log : EpochLog) → log.epoch ≡ epoch → log_with epoch tags log ≡ record { epoch = log.epoch; tags = log.tags ++ tags }
+log_longer epoch tags log same = rw (eq-eqb log.epoch epoch same) refl
 
--- one log got the tag, and no other is of its epoch
-pub added_at : (floor epoch : ℕ) (tag : List ℕ) (logs : List TagLogState) (i : ℕ) (old log : TagLogState) → AreNearLogs floor logs → i < length logs → old ≡ get_or logs i old → old.epoch ≡ epoch
-    → epoch_log log ≡ record { epoch = old.epoch; tags = old.tags ++ tag ∷ [] } → map epoch_log (set logs i log) ≡ map (log_with epoch tag) (map epoch_log logs)
-added_at floor epoch tag [] i old log near within is same longer = absurd (omega arith)
-added_at floor epoch tag (a ∷ []) zero old log near within is same longer =
+-- one log got the tags, and no other is of its epoch
+pub added_at : (floor epoch : ℕ) (tags : List (List ℕ)) (logs : List TagLogState) (i : ℕ) (old log : TagLogState) → AreNearLogs floor logs → i < length logs → old ≡ get_or logs i old → old.epoch ≡ epoch
+    → epoch_log log ≡ record { epoch = old.epoch; tags = old.tags ++ tags } → map epoch_log (set logs i log) ≡ map (log_with epoch tags) (map epoch_log logs)
+added_at floor epoch tags [] i old log near within is same longer = absurd (omega arith)
+added_at floor epoch tags (a ∷ []) zero old log near within is same longer =
     let e : a.epoch ≡ epoch = sym (ap (λ (l : TagLogState). l.epoch) is) ∙ same in
-    let first : epoch_log log ≡ log_with epoch tag (epoch_log a) = longer ∙ ap (λ (l : TagLogState). record { epoch = l.epoch; tags = l.tags ++ tag ∷ [] }) is ∙ sym (log_longer epoch tag (epoch_log a) e) in
+    let first : epoch_log log ≡ log_with epoch tags (epoch_log a) = longer ∙ ap (λ (l : TagLogState). record { epoch = l.epoch; tags = l.tags ++ tags }) is ∙ sym (log_longer epoch tags (epoch_log a) e) in
     λ j. first j ∷ []
-added_at floor epoch tag (a ∷ []) (suc i) old log near within is same longer = absurd (omega arith)
-added_at floor epoch tag (a ∷ b ∷ []) zero old log near within is same longer =
+added_at floor epoch tags (a ∷ []) (suc i) old log near within is same longer = absurd (omega arith)
+added_at floor epoch tags (a ∷ b ∷ []) zero old log near within is same longer =
     let e : a.epoch ≡ epoch = sym (ap (λ (l : TagLogState). l.epoch) is) ∙ same in
-    let first : epoch_log log ≡ log_with epoch tag (epoch_log a) = longer ∙ ap (λ (l : TagLogState). record { epoch = l.epoch; tags = l.tags ++ tag ∷ [] }) is ∙ sym (log_longer epoch tag (epoch_log a) e) in
-    let second : epoch_log b ≡ log_with epoch tag (epoch_log b) = sym (log_stays epoch tag (epoch_log b) (λ other. near.2 (e ∙ sym other))) in
+    let first : epoch_log log ≡ log_with epoch tags (epoch_log a) = longer ∙ ap (λ (l : TagLogState). record { epoch = l.epoch; tags = l.tags ++ tags }) is ∙ sym (log_longer epoch tags (epoch_log a) e) in
+    let second : epoch_log b ≡ log_with epoch tags (epoch_log b) = sym (log_stays epoch tags (epoch_log b) (λ other. near.2 (e ∙ sym other))) in
     λ j. first j ∷ second j ∷ []
-added_at floor epoch tag (a ∷ b ∷ []) (suc zero) old log near within is same longer =
+added_at floor epoch tags (a ∷ b ∷ []) (suc zero) old log near within is same longer =
     let e : b.epoch ≡ epoch = sym (ap (λ (l : TagLogState). l.epoch) is) ∙ same in
-    let first : epoch_log a ≡ log_with epoch tag (epoch_log a) = sym (log_stays epoch tag (epoch_log a) (λ other. near.2 (other ∙ sym e))) in
-    let second : epoch_log log ≡ log_with epoch tag (epoch_log b) = longer ∙ ap (λ (l : TagLogState). record { epoch = l.epoch; tags = l.tags ++ tag ∷ [] }) is ∙ sym (log_longer epoch tag (epoch_log b) e) in
+    let first : epoch_log a ≡ log_with epoch tags (epoch_log a) = sym (log_stays epoch tags (epoch_log a) (λ other. near.2 (other ∙ sym e))) in
+    let second : epoch_log log ≡ log_with epoch tags (epoch_log b) = longer ∙ ap (λ (l : TagLogState). record { epoch = l.epoch; tags = l.tags ++ tags }) is ∙ sym (log_longer epoch tags (epoch_log b) e) in
     λ j. first j ∷ second j ∷ []
-added_at floor epoch tag (a ∷ b ∷ []) (suc (suc i)) old log near within is same longer = absurd (omega arith)
-added_at floor epoch tag (a ∷ b ∷ c ∷ others) i old log near within is same longer = absurd near
+added_at floor epoch tags (a ∷ b ∷ []) (suc (suc i)) old log near within is same longer = absurd (omega arith)
+added_at floor epoch tags (a ∷ b ∷ c ∷ others) i old log near within is same longer = absurd near
 
 -- logs of an unsound store, and of one that isn't ready
 pub of_store_spent : (limit : ℕ) (sound ready : Bool) (logs : List TagLogState) → AreOfStore limit sound ready logs → AreOfStore limit sound false logs
@@ -171,25 +175,29 @@ of_store_unsound limit sound ready (log ∷ logs) all = (record { same_limit = a
 pub root_unsound : (limit : ℕ) (sound : Bool) (roots : List RootRecord) (root : LogState) → IsRootOf limit sound roots root → IsRootOf limit false roots root
 root_unsound limit sound roots root is = record { area = is.area; size = is.size; same_limit = is.same_limit; count = is.count; is_sound = λ never. absurd (cc); made = is.made }
 
+pub root_failed : (limit : ℕ) (sound : Bool) (roots : List RootRecord) (root failed : LogState) → failed ≡ record root { sound = false } → IsRootOf limit sound roots root → IsRootOf limit false roots failed
+root_failed limit sound roots root failed same is =
+    subst (λ (log : LogState). IsRootOf limit false roots log) (sym same) (record { area = is.area; size = is.size; same_limit = is.same_limit; count = is.count; is_sound = λ never. absurd (cc); made = is.made })
+
 -- ---- an epoch begins
 
 -- no log is of the epoch
-none_stay : (epoch : ℕ) (tag : List ℕ) (logs : List EpochLog) → list_any (λ other. other == epoch) (map (λ (log : EpochLog). log.epoch) logs) ≡ false → map (log_with epoch tag) logs ≡ logs
-none_stay epoch tag [] new = refl
-none_stay epoch tag (log ∷ logs) new =
+none_stay : (epoch : ℕ) (tags : List (List ℕ)) (logs : List EpochLog) → list_any (λ other. other == epoch) (map (λ (log : EpochLog). log.epoch) logs) ≡ false → map (log_with epoch tags) logs ≡ logs
+none_stay epoch tags [] new = refl
+none_stay epoch tags (log ∷ logs) new =
     let parts = or_parts (log.epoch == epoch) _ new in
-    λ i. log_stays epoch tag log (eqb-false log.epoch epoch parts.0) i ∷ none_stay epoch tag logs parts.1 i
+    λ i. log_stays epoch tags log (eqb-false log.epoch epoch parts.0) i ∷ none_stay epoch tags logs parts.1 i
 
--- it got a log with its first tag
-pub begun_pushed : (epoch floor : ℕ) (tag : List ℕ) (book : StoredBook) (logs pushed : List TagLogState) (log : TagLogState) (roots : List RootRecord) → has_begun epoch book ≡ false → floor ≡ book.floor
-    → map epoch_log logs ≡ book.logs → pushed ≡ logs ++ log ∷ [] → epoch_log log ≡ record { epoch = epoch; tags = tag ∷ [] } → roots ≡ book.roots ++ Begin epoch ∷ []
-    → book_with floor pushed roots ≡ added epoch tag (begun_with epoch book)
-begun_pushed epoch floor tag book logs pushed log roots new is_floor are_logs are_pushed is are_roots =
+-- it got a log with its first tags
+pub begun_pushed : (epoch floor : ℕ) (tags : List (List ℕ)) (book : StoredBook) (logs pushed : List TagLogState) (log : TagLogState) (roots : List RootRecord) → has_begun epoch book ≡ false → floor ≡ book.floor
+    → map epoch_log logs ≡ book.logs → pushed ≡ logs ++ log ∷ [] → epoch_log log ≡ record { epoch = epoch; tags = tags } → roots ≡ book.roots ++ Begin epoch ∷ []
+    → book_with floor pushed roots ≡ added epoch tags (begun_with epoch book)
+begun_pushed epoch floor tags book logs pushed log roots new is_floor are_logs are_pushed is are_roots =
     let fresh : EpochLog = record { epoch = epoch; tags = [] } in
-    let here : map epoch_log pushed ≡ book.logs ++ record { epoch = epoch; tags = tag ∷ [] } ∷ []
+    let here : map epoch_log pushed ≡ book.logs ++ record { epoch = epoch; tags = tags } ∷ []
     = ap (λ (some : List TagLogState). map epoch_log some) are_pushed ∙ map-append epoch_log logs (log ∷ []) ∙ (λ i. are_logs i ++ is i ∷ []) in
-    let there : map (log_with epoch tag) (book.logs ++ fresh ∷ []) ≡ book.logs ++ record { epoch = epoch; tags = tag ∷ [] } ∷ []
-    = map-append (log_with epoch tag) book.logs (fresh ∷ []) ∙ (λ i. none_stay epoch tag book.logs new i ++ log_longer epoch tag fresh refl i ∷ []) in
+    let there : map (log_with epoch tags) (book.logs ++ fresh ∷ []) ≡ book.logs ++ record { epoch = epoch; tags = tags } ∷ []
+    = map-append (log_with epoch tags) book.logs (fresh ∷ []) ∙ (λ i. none_stay epoch tags book.logs new i ++ log_longer epoch tags fresh refl i ∷ []) in
     rw new (λ i. record { floor = is_floor i; logs = (here ∙ sym there) i; roots = are_roots i })
 
 pub pushed_epochs : (epoch : ℕ) (logs pushed : List TagLogState) (log : TagLogState) → pushed ≡ logs ++ log ∷ [] → log.epoch ≡ epoch
@@ -230,18 +238,30 @@ raised_count floor book =
       | inr below ↦ ap (λ (b : StoredBook). length b.roots) (raised_below floor book below) ∙ (rw (le-ltb book.floor floor below) (omega arith))
     ]
 
-pub claimed_count : (epoch : ℕ) (tag : List ℕ) (least : ℕ) (book : StoredBook) → least ≤ epoch
-    → length (claimed epoch tag least book).roots ≡ length book.roots + ((if nat_lt book.floor least then 1 else 0) + (if has_begun epoch book then 0 else 1))
-claimed_count epoch tag least book low =
+pub claimed_count : (epoch least : ℕ) (book : StoredBook) → least ≤ epoch
+    → length (begun_with epoch (raised least book)).roots ≡ length book.roots + ((if nat_lt book.floor least then 1 else 0) + (if has_begun epoch book then 0 else 1))
+claimed_count epoch least book low =
     let second = begun_count epoch (raised least book) ∙ (λ i. length (raised least book).roots + (if has_begun-raised least epoch book low i then 0 else 1)) in
     second ∙ ap (λ (n : ℕ). n + (if has_begun epoch book then 0 else 1)) (raised_count least book) ∙ add_assoc (length book.roots) (if nat_lt book.floor least then 1 else 0) (if has_begun epoch book then 0 else 1)
 
-pub full_by : (limit epoch : ℕ) (tag : List ℕ) (least : ℕ) (book : StoredBook) (count total : ℕ) → count ≡ pair_count epoch book.logs → total ≡ length (claimed epoch tag least book).roots
-    → (nat_le limit count || nat_lt limit total) ≡ is_full limit epoch tag least book
-full_by limit epoch tag least book count total is_count is_total = λ i. nat_le limit (is_count i) || nat_lt limit (is_total i)
+pub full_by : (limit epoch least : ℕ) (book : StoredBook) (count total : ℕ) → count ≡ pair_count epoch book.logs → total ≡ length (begun_with epoch (raised least book)).roots
+    → (nat_le limit count || nat_lt limit total) ≡ is_full limit epoch least book
+full_by limit epoch least book count total is_count is_total = λ i. nat_le limit (is_count i) || nat_lt limit (is_total i)
 
 -- ---- refusals
 
-pub refused_full : (limit epoch : ℕ) (tag : List ℕ) (least : ℕ) (book : StoredBook) (full : Bool) → book.floor ≤ epoch → is_spent epoch tag book ≡ false → full ≡ is_full limit epoch tag least book
+pub refused_full : (limit epoch : ℕ) (tag : List ℕ) (least : ℕ) (book : StoredBook) (full : Bool) → book.floor ≤ epoch → is_spent epoch tag book ≡ false → full ≡ is_full limit epoch least book
     → (if full then Some ShardFull else None) ≡ claim_refusal limit epoch tag least book
 refused_full limit epoch tag least book full low unspent is = rw (le-ltb epoch book.floor low, unspent) (ap (λ (test : Bool). if test then Some ShardFull else None) is)
+
+-- ---- how many different tags there are
+
+pub logs_summed : (logs : List TagLogState) → sum_by (λ (log : TagLogState). distinct_count log.tags) logs ≡ sum_by (λ (log : EpochLog). distinct_count log.tags) (map epoch_log logs)
+logs_summed [] = refl
+logs_summed (log ∷ logs) =
+    omega (
+      arith,
+      logs_summed logs,
+      sum_by-cons (λ (l : TagLogState). distinct_count l.tags) log logs,
+      sum_by-cons (λ (l : EpochLog). distinct_count l.tags) (epoch_log log) (map epoch_log logs),
+    )

@@ -1,15 +1,15 @@
 -- The book of a store: what the bytes of its three areas say, or the first thing that is against them.
-use Rattle.std.specs.Prelude.{ℕ, ◌+◌, ◌*◌, ◌%◌, ◌<◌, ◌==◌, ◌&&◌, ◌⊎◌, nat_lt, Bool, Contains, List, [], ◌∷◌, length, map, sum_by, Option, Some, None, Result, Ok, Err, if◌then◌else◌}
+use Rattle.std.specs.Prelude.{ℕ, ◌+◌, ◌*◌, ◌%◌, ◌<◌, ◌==◌, ◌&&◌, ◌⊎◌, nat_lt, Bool, Contains, List, [], ◌∷◌, length, map, Option, Some, None, Result, Ok, Err, if◌then◌else◌}
 use Rattle.std.specs.List.{flat_map, list_any}
 use Rattle.std.specs.Option.{option_map}
 use Rattle.std.specs.Str.{bytes_eq}
-use Rattle.mix_base.specs.declared.suites.Shape.{Shape}
+use Rattle.mix_base.specs.declared.shards.Shape.{Shape}
 use Rattle.gate_log.specs.Records.{records}
 use Rattle.spent_store.specs.Root.{roots_in, floor_of, begun_of, shape_value, value_shape, first_amiss}
 use Rattle.spent_store.specs.declared.root.RootRecord.{RootRecord}
 use Rattle.spent_store.specs.declared.root.RootRecord.TheVariants.{Made}
-use Rattle.spent_store.specs.declared.objections.Objection.{Objection}
-use Rattle.spent_store.specs.declared.objections.Objection.TheVariants.{Foreign, OtherShape}
+use Rattle.spent_store.specs.declared.faults.Objection.{Objection}
+use Rattle.spent_store.specs.declared.faults.Objection.TheVariants.{Foreign, OtherShape}
 
 -- an epoch that has begun, with the tags spent in it, in the order of its log
 pub record EpochLog : Type 0 where
@@ -34,14 +34,22 @@ has_begun epoch book = list_any (λ other. other == epoch) (begun book)
 abbrev pub pairs : StoredBook → List (ℕ × List ℕ)
 pairs book = flat_map (λ log. map (λ tag. (log.epoch, tag)) log.tags) book.logs
 
+-- how many different entries a list has, where a test says which are the same
+abbrev pub distinct : {X : Type 0} → (X → X → Bool) → List X → ℕ
+distinct same [] = 0
+distinct same (one ∷ others) = if list_any (λ other. same other one) others then distinct same others else 1 + distinct same others
+
 -- how many different tags there are
 abbrev pub distinct_count : List (List ℕ) → ℕ
-distinct_count [] = 0
-distinct_count (tag ∷ others) = if list_any (λ other. bytes_eq other tag) others then distinct_count others else 1 + distinct_count others
+distinct_count tags = distinct bytes_eq tags
 
--- how many different pairs are spent: no two logs are of one epoch
+-- the same epoch and the same tag
+abbrev pub is_same_pair : ℕ × List ℕ → ℕ × List ℕ → Bool
+is_same_pair one other = one.0 == other.0 && bytes_eq one.1 other.1
+
+-- how many different pairs are spent
 abbrev pub spent : StoredBook → ℕ
-spent book = sum_by (λ log. distinct_count log.tags) book.logs
+spent book = distinct is_same_pair (pairs book)
 
 -- the pair is spent
 abbrev pub is_spent : ℕ → List ℕ → StoredBook → Bool
@@ -74,9 +82,9 @@ abbrev pub overfull : ℕ → ℕ → ℕ → List ℕ → Option Objection
 overfull limit area size bytes = if nat_lt limit (length (records size bytes)) then Some (Foreign area (limit * (size + 1))) else None
 
 -- no record, and more bytes than the writing of the first leaves
-abbrev pub unrecorded : List ℕ → List RootRecord → Option Objection
-unrecorded bytes [] = if nat_lt 11 (length bytes) then Some (Foreign 0 0) else None
-unrecorded bytes (_ ∷ _) = None
+abbrev pub unrecorded : ℕ → List RootRecord → Option Objection
+unrecorded number [] = if nat_lt 11 number then Some (Foreign 0 0) else None
+unrecorded number (_ ∷ _) = None
 
 -- the first record that is amiss, at its byte of kind
 abbrev pub amiss : List RootRecord → Option Objection
@@ -100,7 +108,7 @@ abbrev pub objections : List ℕ → List ℕ → List ℕ → Shape → ℕ →
 objections root one two shape limit =
     let roots = roots_in root in
     overfull limit 0 9 root
-    ∷ unrecorded root roots
+    ∷ unrecorded (length root) roots
     ∷ amiss roots
     ∷ other_shape shape roots
     ∷ overfull_log limit 1 one (begun_of roots)

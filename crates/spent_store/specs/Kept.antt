@@ -1,9 +1,14 @@
 -- What a store's type keeps of its parts.
-use Rattle.std.specs.Prelude.{◌≡◌, ℕ, ◌<◌, Bool, true, List, length, map}
+use Rattle.std.specs.Prelude.{◌≡◌, ℕ, ◌<◌, Bool, true, List, [], ◌∷◌, length, map}
 use Rattle.std.specs.List.{AllByRecursion}
+use Rattle.mix_base.specs.declared.shards.Shape.{Shape}
+use Rattle.replay_disk.specs.Disk.{Areas, area_at}
 use Rattle.gate_log.specs.Log.{LogState}
-use Rattle.spent_store.specs.Books.{StoredBook}
+use Rattle.gate_log.specs.Records.{records}
+use Rattle.spent_store.specs.Books.{EpochLog, StoredBook, area_of}
 use Rattle.spent_store.specs.Root.{AreNear}
+use Rattle.spent_store.specs.Changes.{begun_with, added}
+use Rattle.spent_store.specs.Stores.{OpensToOneOf, UnusedStay, as_read}
 use Rattle.spent_store.specs.TagLogs.{TagLogState, epoch_log}
 use Rattle.spent_store.specs.declared.root.RootRecord.{RootRecord}
 
@@ -32,3 +37,17 @@ AreNearLogs floor logs = AreNear floor (map (λ log. log.epoch) logs)
 
 abbrev pub AreOfStore : ℕ → Bool → Bool → List TagLogState → Type 0
 AreOfStore limit sound ready logs = AllByRecursion (IsOfStore limit sound ready) logs
+
+-- the stages of a beginning, where the floor doesn't rise
+abbrev pub beginning_stages : ℕ → List (List ℕ) → StoredBook → List StoredBook
+beginning_stages epoch tags book = book ∷ begun_with epoch book ∷ added epoch tags (begun_with epoch book) ∷ []
+
+-- at a moment of a change: whatever a crash leaves opens to one of these stages, and only the root and the areas of
+-- these epochs changed
+pub record Leaves (shape : Shape) (limit : ℕ) (stages : List StoredBook) (epochs : List ℕ) (old now : Areas) : Type 0 where
+  pub opens : OpensToOneOf shape limit (as_read stages) now
+  pub others : UnusedStay epochs old now
+
+-- the area of an epoch has these tags
+abbrev pub HasTags : Areas → EpochLog → Type 0
+HasTags areas log = records 32 (area_at (area_of log.epoch) areas).contents ≡ log.tags

@@ -2,7 +2,7 @@
 use Rattle.std.specs.Prelude.{◌≡◌, ℕ, ◌+◌, ◌*◌, ◌/◌, ◌%◌, ◌≤◌, ◌==◌, ◌&&◌, ◌||◌, not, nat_le, nat_lt, Bool, true, false, ⊤, List, [], ◌∷◌, ◌++◌, length, drop, slice_index, fold, filter, map, Option, Some, None, if◌then◌else◌}
 use Rattle.std.specs.Int.{from_be_bytes, to_be_bytes, w64}
 use Rattle.std.specs.List.{filter_map, list_any}
-use Rattle.mix_base.specs.declared.suites.Shape.{Shape}
+use Rattle.mix_base.specs.declared.shards.Shape.{Shape}
 use Rattle.gate_log.specs.Records.{records}
 use Rattle.spent_store.specs.declared.root.RootRecord.{RootRecord}
 use Rattle.spent_store.specs.declared.root.RootRecord.TheVariants.{Made, Begin, Floor, Other}

@@ -1,7 +1,7 @@
 -- What is told of a book.
 use Rattle.std.specs.Prelude.{length}
 use Rattle.spent_store.specs.Books.{StoredBook, spent}
-use Rattle.spent_store.specs.declared.answers.Book.{Book}
+use Rattle.spent_store.specs.declared.summary.Book.{Book}
 
 -- the floor, the number of different spent pairs, and the number of root records
 abbrev pub summary : StoredBook → Book

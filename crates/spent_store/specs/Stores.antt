@@ -1,17 +1,17 @@
 -- A store on a rack: the book that the rack's bytes say, what a crash may leave of it, and when the store stands there.
-use Rattle.std.specs.Prelude.{◌≡◌, ◌⊎◌, ℕ, ◌<◌, Bool, true, List, [], ◌∷◌, map, Contains, length, Result, Ok, Err, if◌then◌else◌}
-use Rattle.mix_base.specs.declared.suites.Shape.{Shape}
-use Rattle.replay_disk.specs.Disk.{Areas, IsImage}
-use Rattle.spent_store.specs.Books.{StoredBook, area_of, has_begun, book_of}
-use Rattle.spent_store.specs.Changes.{begun_with, added, made_where_read}
-use Rattle.spent_store.specs.Journals.{Journal, Opening, Opened, Objected, RackFailed, Opens, sound_with, unsound_with, cut_off}
+use Rattle.std.specs.Prelude.{◌≡◌, ◌⊎◌, ⊤, ℕ, ◌<◌, Bool, true, false, List, map, Contains, length, Result, Ok, Err, if◌then◌else◌}
+use Rattle.mix_base.specs.declared.shards.Shape.{Shape}
+use Rattle.replay_disk.specs.Disk.{Areas, IsImage, area_at}
+use Rattle.spent_store.specs.Books.{StoredBook, area_of, has_begun, is_used, book_of}
+use Rattle.spent_store.specs.Changes.{made_where_read}
+use Rattle.spent_store.specs.Journals.{Journal, Opening, Opened, Objected, RackFailed, WantsMemory, Opens, sound_with, unsound_with, cut_off}
 use Rattle.spent_store.specs.Seen.{summary}
-use Rattle.spent_store.specs.TagLogs.{IsAtRest}
-use Rattle.spent_store.specs.declared.answers.Book.{Book}
-use Rattle.spent_store.specs.declared.answers.OpenStore.{OpenStore}
-use Rattle.spent_store.specs.declared.answers.OpenStore.TheVariants as answer
-use Rattle.spent_store.specs.declared.objections.Objection.{Objection}
-use Rattle.spent_store.specs.declared.objections.Objection.TheVariants.{Foreign, OtherShape}
+use Rattle.spent_store.specs.TagLogs.{RestsClosed}
+use Rattle.spent_store.specs.declared.summary.Book.{Book}
+use Rattle.spent_store.specs.declared.faults.OpenStore.{OpenStore}
+use Rattle.spent_store.specs.declared.faults.OpenStore.TheVariants as answer
+use Rattle.spent_store.specs.declared.faults.Objection.{Objection}
+use Rattle.spent_store.specs.declared.faults.Objection.TheVariants.{Foreign, OtherShape}
 
 -- the book of what a rack's areas hold, or what is against it
 abbrev pub book_in : Areas → Shape → ℕ → Result StoredBook Objection
@@ -27,6 +27,10 @@ pub record SameContents (old new : Areas) : Type 0 where
   pub root : new.root.contents ≡ old.root.contents
   pub one : new.one.contents ≡ old.one.contents
   pub two : new.two.contents ≡ old.two.contents
+
+-- the areas of logs that none of these epochs uses are as they were
+abbrev pub UnusedStay : List ℕ → Areas → Areas → Type 0
+UnusedStay epochs old now = (area : ℕ) → 0 < area → area < 3 → is_used area epochs ≡ false → area_at area now ≡ area_at area old
 
 -- what a crash may leave of the three areas
 pub record Left (areas : Areas) : Type 0 where
@@ -65,8 +69,8 @@ pub record StoreState : Type 0 where
 -- Areas stand for a book: each that the book uses has exactly one image, whose end is closed; these give the book; and
 -- the root has a record.
 pub record StandFor (shape : Shape) (limit : ℕ) (book : StoredBook) (areas : Areas) : Type 0 where
-  pub root : IsAtRest 9 0 areas
-  pub logs : (epoch : ℕ) → has_begun epoch book ≡ true → IsAtRest 32 (area_of epoch) areas
+  pub root : RestsClosed 9 0 areas
+  pub logs : (epoch : ℕ) → has_begun epoch book ≡ true → RestsClosed 32 (area_of epoch) areas
   pub reads : book_in areas shape limit ≡ Ok book
   pub made : 0 < length book.roots
 
@@ -82,20 +86,26 @@ journal_of store stages = if store.is_sound then sound_with store.book else cut_
 abbrev pub as_read : List StoredBook → List (Result StoredBook Objection)
 as_read stages = map (λ book. Ok book) stages
 
--- the stages of a beginning, where the floor doesn't rise
-abbrev pub beginning_stages : ℕ → List ℕ → StoredBook → List StoredBook
-beginning_stages epoch tag book = book ∷ begun_with epoch book ∷ added epoch tag (begun_with epoch book) ∷ []
-
--- how an opening ended, by its answer: want of memory leaves what a failure leaves
+-- how an opening ended, by its answer
 abbrev pub opening_of : {T : Type 0} → Result T OpenStore → Opening
 opening_of (Ok store) = Opened
 opening_of (Err (answer.Foreign area at)) = Objected (Foreign area at)
 opening_of (Err (answer.OtherShape stored)) = Objected (OtherShape stored)
 opening_of (Err answer.Failed) = RackFailed
-opening_of (Err answer.Memory) = RackFailed
+opening_of (Err answer.Memory) = WantsMemory
+
+-- a store that was opened has the journal's one book
+abbrev pub IsBookOf : Result StoreState OpenStore → Journal → Type 0
+IsBookOf (Ok store) journal = journal ≡ sound_with store.book
+IsBookOf (Err fault) journal = ⊤
 
 -- An opening by the journal's rule: an unsound journal of all that the rack might open to has become one of all that it
 -- may open to.
-abbrev pub OpensJournal : {T : Type 0} → Shape → ℕ → Areas → Result T OpenStore → Areas → Type 0
-OpensJournal shape limit old result now = (books : List (Result StoredBook Objection)) → OpensToOneOf shape limit books old
-    → (journal : Journal) × Opens shape (unsound_with books) (opening_of result) journal × OpensToOneOf shape limit journal.books now
+pub record IsOpening (shape : Shape) (limit : ℕ) (books : List (Result StoredBook Objection)) (result : Result StoreState OpenStore) (now : Areas) : Type 0 where
+  pub journal : Journal
+  pub opens : Opens shape (unsound_with books) (opening_of result) journal
+  pub of_store : IsBookOf result journal
+  pub covers : OpensToOneOf shape limit journal.books now
+
+abbrev pub OpensJournal : Shape → ℕ → Areas → Result StoreState OpenStore → Areas → Type 0
+OpensJournal shape limit old result now = (books : List (Result StoredBook Objection)) → OpensToOneOf shape limit books old → IsOpening shape limit books result now

@@ -1,13 +1,13 @@
 // What a store knows of its book, in memory. Tags are kept in the order of their logs, and looked for one by one.
-ghost use Rattle.std.specs.Prelude.{◌≡◌, ℕ, ◌+◌, ◌^◌, ◌≤◌, ◌∷◌, length, map, vec_len};
+ghost use Rattle.std.specs.Prelude.{◌≡◌, ℕ, ◌+◌, ◌^◌, ◌≤◌, ◌∷◌, length, map, sum_by, vec_len};
 ghost use Rattle.std.specs.List.{list_any};
 ghost use Rattle.std.specs.Str.{bytes_eq};
 ghost use Rattle.spent_store.specs.Books.{EpochLog, StoredBook, begun};
 ghost use Rattle.spent_store.specs.Books as books;
 ghost use Rattle.spent_store.specs.Root.{AreNear};
 
-use crate::answers::Book;
 use crate::root::RootRecord;
+use crate::summary::Book;
 use std::marker::Model;
 
 /// Whether a tag is among these.
@@ -63,16 +63,6 @@ impl KnownLog {
         KnownLog { epoch, tags }
     }
 
-    /// The epoch and the tags.
-    pub fn into_parts(self) -> (u64, Vec<[u8; 32]>)
-        ensures epoch { result.0 ≡ self.epoch }
-        ensures tags { result.1.items ≡ self.tags }
-        ensures few { vec_len result.1 ≤ 2 ^ 26 }
-    {
-        let KnownLog { epoch, tags } = self;
-        (epoch, tags)
-    }
-
     /// How many different tags are spent in the epoch.
     fn spent(&self) -> u64
         ensures value { result ≡ books.distinct_count self.now.tags }
@@ -110,37 +100,26 @@ impl KnownBook {
         KnownBook { floor, logs, roots }
     }
 
-    /// The records of the root.
-    pub fn roots(&self) -> &[RootRecord]
-        ensures { result.now ≡ self.now.roots }
-    {
-        &self.roots
-    }
-
-    /// The floor, the logs and the records of the root.
-    pub fn into_parts(self) -> (u64, Vec<KnownLog>, Vec<RootRecord>)
-        ensures floor { result.0 ≡ self.floor }
-        ensures logs { result.1.items ≡ self.logs }
-        ensures roots { result.2.items ≡ self.roots }
-        ensures near { AreNear self.floor (map (λ log. log.epoch) self.logs) }
-        ensures two { length self.logs ≤ 2 }
-    {
-        let KnownBook { floor, logs, roots } = self;
-        (floor, logs, roots)
-    }
-
     /// What the book comes to.
     pub fn summary(&self) -> Book
         ensures { result ≡ seen.summary self.now }
     {
-        let mut spent = 0;
-        'counting: for log in &self.logs {
-            spent += log.spent();
-        }
         Book {
             floor: self.floor,
-            spent,
+            spent: known_spent(&self.logs),
             root: self.roots.len() as u64,
         }
     }
+}
+
+/// How many different tags are spent in these logs.
+fn known_spent(logs: &[KnownLog]) -> u64
+    requires { length logs.now ≤ 2 }
+    ensures { result ≡ sum_by (λ log. books.distinct_count log.tags) logs.now }
+{
+    let mut spent = 0;
+    'counting: for log in logs {
+        spent += log.spent();
+    }
+    spent
 }

@@ -2,23 +2,22 @@
 // for each begun epoch.
 #![tactic(auto)]
 
-mod answers;
+mod faults;
 mod known;
+mod log_lists;
 mod logs;
-mod making;
-mod objections;
-mod opening;
 mod reading;
 mod root;
 mod standing;
 mod store;
 #[cfg(test)]
 mod store_tests;
+mod summary;
 mod tag_log;
 #[cfg(test)]
 mod tests;
 
-pub use answers::{Book, ClaimFault, OpenStore, RetireFault};
-pub use objections::Objection;
+pub use faults::{ClaimFault, Objection, OpenStore, RetireFault};
 pub use reading::look;
 pub use store::SpentStore;
+pub use summary::Book;

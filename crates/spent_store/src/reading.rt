@@ -1,19 +1,21 @@
 // Reading a store: its book from what a rack holds, or the first thing that is against it. Nothing is written.
-ghost use Rattle.std.specs.Prelude.{◌≡◌, ℕ, ◌*◌, ◌^◌, ◌≤◌, ◌<◌, ◌==◌, true, [], ◌∷◌, length, map, None, Ok, IfOk, OnOk, IfErr, IsErrOf};
+ghost use Rattle.std.specs.Prelude.{◌≡◌, ℕ, ◌+◌, ◌*◌, ◌^◌, ◌≤◌, ◌<◌, ◌==◌, true, [], ◌∷◌, length, map, None, Ok, IfOk, OnOk, IfErr, IsErrOf};
 ghost use Rattle.std.specs.List.{AllByRecursion, list_any, concat};
 ghost use Rattle.std.specs.Result.{result_err};
-ghost use Rattle.mix_base.specs.Faults.{Rose};
-ghost use Rattle.replay_disk.specs.Disk.{contents_of, OnlyFaults};
+ghost use Rattle.mix_base.specs.Shards.{IsShape};
+ghost use Rattle.replay_disk.specs.Disk.{contents_of, OnlyRead, Owes};
+ghost use Rattle.gate_log.specs.Log.{most_reads};
 ghost use Rattle.gate_log.specs.Records.{records};
-ghost use Rattle.spent_store.specs.Answers.{Refuses};
+ghost use Rattle.spent_store.specs.Faults.{Refuses};
 ghost use Rattle.spent_store.specs.Books as books;
 ghost use Rattle.spent_store.specs.Joined.{cut_log};
 ghost use Rattle.spent_store.specs.Stores.{book_in, told};
 
-use crate::answers::{Book, OpenStore};
+use crate::faults::OpenStore;
 use crate::known::{KnownBook, KnownLog};
 use crate::logs::{read_area, read_roots, tags_of};
-use crate::standing::{check_recorded, check_shape, read_standing};
+use crate::standing::judge_root;
+use crate::summary::Book;
 use mix_base::{Bytes, Shape};
 use replay_disk::Rack;
 use std::alloc::{AllocError, Global};
@@ -27,7 +29,7 @@ fn is_used(area: u8, begun: &[u64]) -> bool
 
 /// The records of an area whose log is of a begun epoch, one after the other, and none of another area; or that there
 /// are more than the limit.
-fn read_log<R: Rack>(
+fn read_used<R: Rack>(
     alloc: Global,
     rack: &mut R,
     limit: u64,
@@ -40,10 +42,8 @@ fn read_log<R: Rack>(
     ensures fits { R.tells → OnOk result (books.overfull_log limit area (contents_of area (R.state rack.old)) begun.now ≡ None) }
     ensures short { IfOk result (λ found. length found ≤ 32 * limit) }
     ensures objection { R.tells → IfErr result (λ fault. Refuses fault (books.overfull_log limit area (contents_of area (R.state rack.old)) begun.now)) }
-    ensures ok { OnOk result (R.state rack.new ≡ R.state rack.old) }
-    ensures same { OnlyFaults (R.state rack.old) (R.state rack.new) }
-    ensures failed { IsErrOf result OpenStore.Failed → Rose (R.state rack.old).faults (R.state rack.new).faults }
-    ensures not_failed { ¬ IsErrOf result OpenStore.Failed → R.state rack.new ≡ R.state rack.old }
+    ensures same { OnlyRead (R.state rack.old) (R.state rack.new) }
+    ensures owes { Owes (most_reads limit) (IsErrOf result OpenStore.Failed) (R.state rack.old) (R.state rack.new) }
 {
     if is_used(area, begun) {
         read_area::<R, 32>(alloc, rack, limit, area)
@@ -96,13 +96,11 @@ fn read_logs<R: Rack>(
     ensures second { R.tells → OnOk result (books.overfull_log limit 2 (contents_of 2 (R.state rack.old)) begun.now ≡ None) }
     ensures objection { R.tells → IfErr result (λ fault. Refuses fault (books.first_of (books.overfull_log limit 1 (contents_of 1 (R.state rack.old)) begun.now
         ∷ books.overfull_log limit 2 (contents_of 2 (R.state rack.old)) begun.now ∷ []))) }
-    ensures ok { OnOk result (R.state rack.new ≡ R.state rack.old) }
-    ensures same { OnlyFaults (R.state rack.old) (R.state rack.new) }
-    ensures failed { IsErrOf result OpenStore.Failed → Rose (R.state rack.old).faults (R.state rack.new).faults }
-    ensures not_failed { ¬ IsErrOf result OpenStore.Failed → R.state rack.new ≡ R.state rack.old }
+    ensures same { OnlyRead (R.state rack.old) (R.state rack.new) }
+    ensures owes { Owes (2 * most_reads limit) (IsErrOf result OpenStore.Failed) (R.state rack.old) (R.state rack.new) }
 {
-    let one = read_log(alloc, rack, limit, 1, begun)?;
-    let two = read_log(alloc, rack, limit, 2, begun)?;
+    let one = read_used(alloc, rack, limit, 1, begun)?;
+    let two = read_used(alloc, rack, limit, 2, begun)?;
     let logs = logs_of(alloc, one.as_slice(), two.as_slice(), begun)?;
     Ok(logs)
 }
@@ -120,15 +118,12 @@ pub fn read_book<R: Rack>(
     ensures fits { IfOk result (λ book. AllByRecursion (λ log. length log.tags ≤ limit) book.logs) }
     ensures few { IfOk result (λ book. length book.roots ≤ limit) }
     ensures objection { R.tells → IfErr result (λ fault. Refuses fault (result_err (book_in (R.state rack.old).areas shape.now limit))) }
-    ensures ok { OnOk result (R.state rack.new ≡ R.state rack.old) }
-    ensures same { OnlyFaults (R.state rack.old) (R.state rack.new) }
-    ensures failed { IsErrOf result OpenStore.Failed → Rose (R.state rack.old).faults (R.state rack.new).faults }
-    ensures not_failed { ¬ IsErrOf result OpenStore.Failed → R.state rack.new ≡ R.state rack.old }
+    ensures same { OnlyRead (R.state rack.old) (R.state rack.new) }
+    ensures owes { Owes (3 * most_reads limit + 1) (IsErrOf result OpenStore.Failed) (R.state rack.old) (R.state rack.new) }
 {
+    let size = rack.length(0)?;
     let roots = read_roots(alloc, rack, limit)?;
-    check_recorded(rack, &roots)?;
-    let standing = read_standing(alloc, &roots)?;
-    check_shape(shape, &roots)?;
+    let standing = judge_root(alloc, shape, size, &roots)?;
     let logs = read_logs(alloc, rack, limit, &standing.begun)?;
     Ok(KnownBook::of(standing.floor, logs, roots))
 }
@@ -143,16 +138,13 @@ pub fn look<R: Rack>(
 ) -> Result<Book, OpenStore>
     requires some { 2 ≤ limit }
     requires limit { limit ≤ 2 ^ 26 }
-    requires shards { 1 ≤ shape.now.shards }
-    requires most { shape.now.shards ≤ 16 }
-    requires index { shape.now.index < shape.now.shards }
+    requires shape { IsShape shape.now }
     ensures book { R.tells → IfOk result (λ book. told (book_in (R.state rack.old).areas shape.now limit) ≡ Ok book) }
     ensures objection { R.tells → IfErr result (λ fault. Refuses fault (result_err (book_in (R.state rack.old).areas shape.now limit))) }
-    ensures same { OnlyFaults (R.state rack.old) (R.state rack.new) }
+    ensures same { OnlyRead (R.state rack.old) (R.state rack.new) }
 
     // It fails only where the rack did.
-    ensures failed { IsErrOf result OpenStore.Failed → Rose (R.state rack.old).faults (R.state rack.new).faults }
-    ensures not_failed { ¬ IsErrOf result OpenStore.Failed → R.state rack.new ≡ R.state rack.old }
+    ensures owes { Owes (3 * most_reads limit + 1) (IsErrOf result OpenStore.Failed) (R.state rack.old) (R.state rack.new) }
 {
     let book = read_book(alloc, rack, shape, limit)?;
     Ok(book.summary())

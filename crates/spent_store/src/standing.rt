@@ -1,19 +1,15 @@
 // What the records of a root say: the floor and the begun epochs, or the first record that can't be.
-ghost use Rattle.std.specs.Prelude.{◌≡◌, ℕ, ◌+◌, ◌*◌, ◌^◌, ◌<◌, ◌≤◌, ◌==◌, ◌||◌, Bool, List, length, None, IfOk, OnOk, IfErr, IsErrOf};
+ghost use Rattle.std.specs.Prelude.{◌≡◌, ℕ, ◌+◌, ◌*◌, ◌^◌, ◌<◌, ◌≤◌, ◌==◌, ◌||◌, Bool, List, [], ◌∷◌, length, None, IfOk, OnOk, IfErr};
 ghost use Rattle.std.specs.List.{list_any};
 ghost use Rattle.std.specs.Result.{result_err};
-ghost use Rattle.mix_base.specs.Faults.{Rose};
-ghost use Rattle.replay_disk.specs.Disk.{contents_of, OnlyFaults};
-ghost use Rattle.spent_store.specs.Answers.{Objects, Refuses};
+ghost use Rattle.spent_store.specs.Faults.{Objects};
 ghost use Rattle.spent_store.specs.Books as books;
 ghost use Rattle.spent_store.specs.Root as root_meaning;
 ghost use Rattle.spent_store.specs.Root.{begun_of, floor_of};
 
-use crate::answers::OpenStore;
-use crate::objections::Objection;
+use crate::faults::{Objection, OpenStore};
 use crate::root::RootRecord;
 use mix_base::Shape;
-use replay_disk::Rack;
 use std::alloc::{AllocError, Global};
 
 /// What a root says: the floor, and the begun epochs that aren't below it.
@@ -88,7 +84,7 @@ fn begun_after(alloc: Global, begun: Vec<u64>, root: &RootRecord) -> Result<Vec<
 }
 
 /// What the records say, one after the other; or the first that can't be. There are at most 2^26.
-pub fn read_standing(alloc: Global, roots: &[RootRecord]) -> Result<Standing, OpenStore>
+fn read_standing(alloc: Global, roots: &[RootRecord]) -> Result<Standing, OpenStore>
     requires { length roots.now ≤ 2 ^ 26 }
     ensures floor { IfOk result (λ standing. standing.floor ≡ floor_of roots.now) }
     ensures begun { IfOk result (λ standing. standing.begun.items ≡ begun_of roots.now) }
@@ -108,27 +104,18 @@ pub fn read_standing(alloc: Global, roots: &[RootRecord]) -> Result<Standing, Op
     Ok(Standing { floor, begun })
 }
 
-/// Refuses a root without a record that has more bytes than the writing of the first record leaves. Nothing is
-/// written.
-pub fn check_recorded<R: Rack>(rack: &mut R, roots: &[RootRecord]) -> Result<(), OpenStore>
-    ensures recorded { R.tells → OnOk result (books.unrecorded (contents_of 0 (R.state rack.old)) roots.now ≡ None) }
-    ensures objection { R.tells → IfErr result (λ fault. Refuses fault (books.unrecorded (contents_of 0 (R.state rack.old)) roots.now)) }
-    ensures ok { OnOk result (R.state rack.new ≡ R.state rack.old) }
-    ensures same { OnlyFaults (R.state rack.old) (R.state rack.new) }
-    ensures failed { IsErrOf result OpenStore.Failed → Rose (R.state rack.old).faults (R.state rack.new).faults }
-    ensures not_failed { ¬ IsErrOf result OpenStore.Failed → R.state rack.new ≡ R.state rack.old }
+/// Refuses a root without a record that has more bytes than the writing of the first record leaves, where it has `size`.
+fn check_recorded(size: u64, roots: &[RootRecord]) -> Result<(), Objection>
+    ensures { result_err result ≡ books.unrecorded size roots.now }
 {
-    if roots.is_empty() {
-        let length = rack.length(0)?;
-        if length > 11 {
-            return Err(OpenStore::Foreign { area: 0, at: 0 });
-        }
+    if roots.is_empty() && size > 11 {
+        return Err(Objection::Foreign { area: 0, at: 0 });
     }
     Ok(())
 }
 
 /// Refuses a root that was made for another shape. The records are in order.
-pub fn check_shape(shape: &Shape, roots: &[RootRecord]) -> Result<(), Objection>
+fn check_shape(shape: &Shape, roots: &[RootRecord]) -> Result<(), Objection>
     requires { books.amiss roots.now ≡ None }
     ensures { result_err result ≡ books.other_shape shape.now roots.now }
 {
@@ -143,4 +130,26 @@ pub fn check_shape(shape: &Shape, roots: &[RootRecord]) -> Result<(), Objection>
         }
         _ => Ok(()),
     }
+}
+
+/// What the records of a root say, at most 2^26, where it has `size` bytes; or the first thing that is against them.
+pub fn judge_root(
+    alloc: Global,
+    shape: &Shape,
+    size: u64,
+    roots: &[RootRecord],
+) -> Result<Standing, OpenStore>
+    requires { length roots.now ≤ 2 ^ 26 }
+    ensures floor { IfOk result (λ standing. standing.floor ≡ floor_of roots.now) }
+    ensures begun { IfOk result (λ standing. standing.begun.items ≡ begun_of roots.now) }
+    ensures recorded { OnOk result (books.unrecorded size roots.now ≡ None) }
+    ensures in_order { OnOk result (books.amiss roots.now ≡ None) }
+    ensures shaped { OnOk result (books.other_shape shape.now roots.now ≡ None) }
+    ensures objection { IfErr result (λ fault. Objects fault (books.first_of (books.unrecorded size roots.now
+        ∷ books.amiss roots.now ∷ books.other_shape shape.now roots.now ∷ []))) }
+{
+    check_recorded(size, roots)?;
+    let standing = read_standing(alloc, roots)?;
+    check_shape(shape, roots)?;
+    Ok(standing)
 }

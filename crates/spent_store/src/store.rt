@@ -1,32 +1,28 @@
 // The store of spent tags: a journal on the three areas of a rack. A store is sound until a call on its rack fails;
 // then it is opened again, and what a crash or a failure has left of a change is one of its stages.
-ghost use Rattle.std.specs.Prelude.{◌≡◌, ℕ, ◌+◌, ◌*◌, ◌^◌, ◌<◌, ◌≤◌, ◌==◌, ◌&&◌, nat_le, List, [], ◌∷◌, ◌++◌, length, map, filter, slice_index_or, Bool, true, false, IsTrue, IfOk, OnOk, OnErr, IfErr, IsErrOf, vec_len, vec_capacity, None, Ok, if◌then◌else◌};
-ghost use Rattle.std.specs.List.{list_any, sum_by};
-ghost use Rattle.std.specs.Str.{bytes_eq};
+ghost use Rattle.std.specs.Prelude.{◌≡◌, ◌≢◌, ℕ, ◌+◌, ◌*◌, ◌^◌, ◌≤◌, [], ◌∷◌, true, false, Contains, IsTrue, Ok, IsOk, IfOk, OnOk, IfErr, IsErrOf};
 ghost use Rattle.std.specs.Result.{result_err};
-ghost use Rattle.mix_base.specs.Faults.{Rose};
-ghost use Rattle.replay_disk.specs.Disk.{contents_of, CountsFault};
+ghost use Rattle.mix_base.specs.Shards.{IsShape};
+ghost use Rattle.replay_disk.specs.Disk.{contents_of, MadeNoCall, Owes};
 ghost use Rattle.replay_disk.specs.Moments.{AtEachMoment};
-ghost use Rattle.gate_log.specs.Log.{EachImage, IsOldOrWith};
-ghost use Rattle.gate_log.specs.Records.{records};
-ghost use Rattle.spent_store.specs.Answers.{Refuses, IsRefused, answered};
-ghost use Rattle.spent_store.specs.Books as books;
-ghost use Rattle.spent_store.specs.Books.{is_spent, has_begun, pairs};
-ghost use Rattle.spent_store.specs.Changes.{raised, begun_with, added, claimed, claim_stages, retirement_stages, made_where_read};
-ghost use Rattle.spent_store.specs.Journals.{Claims, Retires, claim_refusal, is_full};
-ghost use Rattle.spent_store.specs.Kept.{IsOfStore, AreOfStore};
-ghost use Rattle.spent_store.specs.Root.{IsNear, spell_root};
-ghost use Rattle.spent_store.specs.Stores.{StoreState, Stands, SameContents, OpensFrom, OpensJournal, OpensToOneOf, as_read, beginning_stages, book_in, journal_of};
-ghost use Rattle.spent_store.specs.TagLogs.{TagLogState, IsAtRest, epoch_log};
-ghost use Rattle.spent_store.specs.declared.objections.Objection.{Objection};
+ghost use Rattle.gate_log.specs.Log.{most_reads};
+ghost use Rattle.spent_store.specs.Faults.{Refuses, IsRefused};
+ghost use Rattle.spent_store.specs.Books.{is_spent};
+ghost use Rattle.spent_store.specs.Changes.{raised, claimed, claim_stages, retirement_stages, made_where_read};
+ghost use Rattle.spent_store.specs.Journals.{Claims, Retires};
+ghost use Rattle.spent_store.specs.Root.{begun_of, roots_in};
+ghost use Rattle.spent_store.specs.Stores.{Stands, SameContents, IsSameOrMade, OpensFrom, OpensJournal, OpensToOneOf, UnusedStay, as_read, book_in, journal_of};
 
-use crate::answers::{Book, ClaimFault, OpenStore, RetireFault};
-use crate::logs::open_log;
-use crate::opening::{made_roots, open_logs};
-use crate::reading::read_book;
+mod changes;
+mod found;
+
+use crate::faults::{ClaimFault, OpenStore, RetireFault};
+use crate::log_lists::{is_in, reserve_logs, spent_in};
 use crate::root::RootRecord;
+use crate::summary::Book;
 use crate::tag_log::TagLog;
-use gate_log::{GateLog, LogAppend};
+use found::FoundStore;
+use gate_log::GateLog;
 use mix_base::{Failed, History, Memory, Shape};
 use replay_disk::Rack;
 use std::alloc::Global;
@@ -68,9 +64,9 @@ impl Model for SpentStore {
 impl SpentStore {
     ghost use Rattle.spent_store.specs.Seen as seen;
 
-    /// Opens the store of a rack, of 1 to 16 shards and an index below them, whose logs have at most `limit` records, 2
-    /// to 2^26; or says what is against it. A root without a record gets the one of its shape. What is objected to is
-    /// read and not written.
+    /// Opens the store of a rack, whose logs have at most `limit` records, 2 to 2^26; or says what is against it. All is
+    /// brought to the disk, read and judged, and the memory is taken, before a byte is written. Then a root without a record
+    /// gets the one of its shape, and the ends of the logs are closed.
     pub fn open<R: Rack>(
         alloc: Global,
         rack: &mut R,
@@ -79,49 +75,36 @@ impl SpentStore {
     ) -> Result<SpentStore, OpenStore>
         requires some { 2 ≤ limit }
         requires limit { limit ≤ 2 ^ 26 }
-        requires shards { 1 ≤ shape.now.shards }
-        requires most { shape.now.shards ≤ 16 }
-        requires index { shape.now.index < shape.now.shards }
+        requires shape { IsShape shape.now }
 
         // The store has the book of what was there, with its root made, and stands on the rack.
         ensures store { IfOk result (λ store. store ≡ record { shape = shape.now; limit = limit; book = store.book; is_sound = true; spare = store.spare }) }
         ensures book { R.tells → IfOk result (λ store. made_where_read shape.now (book_in (R.state rack.old).areas shape.now limit) ≡ Ok store.book) }
         ensures stands { R.tells → IfOk result (λ store. Stands store (R.state rack.new).areas) }
+        ensures alone { R.tells → IfOk result (λ store. OpensToOneOf shape.now limit (as_read (store.book ∷ [])) (R.state rack.new).areas) }
 
-        // It is refused where something is against the book, and nothing was written then.
+        // It is refused where something is against the book. Nothing was written then, nor where memory was wanting.
         ensures objection { R.tells → IfErr result (λ fault. Refuses fault (result_err (book_in (R.state rack.old).areas shape.now limit))) }
-        ensures unwritten { R.tells → (objection : Objection) → IsErrOf result (answered objection) → SameContents (R.state rack.old).areas (R.state rack.new).areas }
+        ensures unwritten { R.tells → IfErr result (λ fault. fault ≢ OpenStore.Failed → SameContents (R.state rack.old).areas (R.state rack.new).areas) }
 
-        // The journal's rule says what it leaves of an unsound journal.
+        // Where it isn't opened, a read gives what it gave before, or that with its root made.
+        ensures reads { R.tells → IfErr result (λ fault. IsSameOrMade shape.now (book_in (R.state rack.old).areas shape.now limit) (book_in (R.state rack.new).areas shape.now limit)) }
+
+        // The journal's rule says what it leaves of an unsound journal: after Ok the store's own book.
         ensures journal { R.tells → OpensJournal shape.now limit (R.state rack.old).areas result (R.state rack.new).areas }
 
         // At every moment a crash leaves what might have been left before, with its root made or not.
         ensures each_moment { R.tells → AtEachMoment (OpensFrom shape.now limit (R.state rack.old).areas) (R.state rack.old) (R.state rack.new) }
+        ensures unused { R.tells → AtEachMoment (UnusedStay (begun_of (roots_in (contents_of 0 (R.state rack.old)))) (R.state rack.old).areas) (R.state rack.old) (R.state rack.new) }
 
         // It fails only where the rack did.
-        ensures failed { IsErrOf result OpenStore.Failed → Rose (R.state rack.old).faults (R.state rack.new).faults }
-        ensures no_fault { ¬ IsErrOf result OpenStore.Failed → (R.state rack.new).faults ≡ (R.state rack.old).faults }
-        ensures arms { (R.state rack.new).arms ≡ (R.state rack.old).arms }
-        ensures crashes { (R.state rack.new).crashes ≡ (R.state rack.old).crashes }
+        ensures owes { Owes (3 * most_reads limit + 14) (IsErrOf result OpenStore.Failed) (R.state rack.old) (R.state rack.new) }
     {
-        rack.sync(0)?;
-        let known = read_book(alloc, rack, shape, limit)?;
-        let roots = made_roots(rack, shape, limit, &known)?;
-        let (floor, logs, read) = known.into_parts();
-        let count = read.len().max(1) as u64;
-        let root = open_log::<R, 9>(alloc, rack, 0, limit, count)?;
-        let logs = open_logs(alloc, rack, logs, limit)?;
-        Ok(SpentStore {
-            shape: *shape,
-            limit,
-            floor,
-            roots,
-            root,
-            logs,
-            fresh: None,
-            ready: false,
-            sound: true,
-        })
+        let found = FoundStore::read(alloc, rack, shape, limit)?;
+        match found.close(rack) {
+            Ok(store) => Ok(store),
+            Err(Failed) => Err(OpenStore::Failed),
+        }
     }
 
     /// Makes room in memory for a claim.
@@ -193,7 +176,7 @@ impl SpentStore {
         requires room { R.tells → 57 ≤ (R.state rack.old).room }
 
         // The journal's rule says when it is refused, and what it leaves.
-        ensures journal { Claims self.old.limit epoch tag.now least self.old.book result (journal_of self.new (claim_stages epoch tag.now least self.old.book)) }
+        ensures journal { Claims self.old.limit epoch tag.now least self.old.book result (journal_of self.new (claim_stages epoch (tag.now ∷ []) least self.old.book)) }
         ensures store { self.new ≡ record self.old { book = self.new.book; is_sound = self.new.is_sound; spare = self.new.spare } }
         ensures sound { ¬ IsErrOf result ClaimFault.Failed → IsTrue self.new.is_sound }
         ensures unsound { IsErrOf result ClaimFault.Failed → self.new.is_sound ≡ false }
@@ -201,19 +184,18 @@ impl SpentStore {
 
         // A refusal changes nothing, and makes no call on the rack.
         ensures refused { IsRefused result → self.new ≡ self.old }
-        ensures unwritten { IsRefused result → R.state rack.new ≡ R.state rack.old }
+        ensures unwritten { IsRefused result → MadeNoCall (R.state rack.old) (R.state rack.new) }
 
         // At every moment a crash leaves one of the stages, and after Ok the last alone.
-        ensures each_moment { R.tells → AtEachMoment (OpensToOneOf self.old.shape self.old.limit (as_read (claim_stages epoch tag.now least self.old.book))) (R.state rack.old) (R.state rack.new) }
-        ensures done { R.tells → OnOk result (OpensToOneOf self.old.shape self.old.limit (as_read (claimed epoch tag.now least self.old.book ∷ [])) (R.state rack.new).areas) }
+        ensures each_moment { R.tells → AtEachMoment (OpensToOneOf self.old.shape self.old.limit (as_read (claim_stages epoch (tag.now ∷ []) least self.old.book))) (R.state rack.old) (R.state rack.new) }
+        ensures unused { R.tells → AtEachMoment (UnusedStay (epoch ∷ []) (R.state rack.old).areas) (R.state rack.old) (R.state rack.new) }
+        ensures done { R.tells → OnOk result (OpensToOneOf self.old.shape self.old.limit (as_read (claimed epoch (tag.now ∷ []) least self.old.book ∷ [])) (R.state rack.new).areas) }
         ensures stands { R.tells → ¬ IsErrOf result ClaimFault.Failed → Stands self.new (R.state rack.new).areas }
+        ensures reads { R.tells → IsErrOf result ClaimFault.Failed → Contains (as_read (claim_stages epoch (tag.now ∷ []) least self.old.book)) (book_in (R.state rack.new).areas self.old.shape self.old.limit) }
         ensures room { R.tells → (R.state rack.old).room ≤ (R.state rack.new).room + 57 }
 
-        // It fails only where the rack did.
-        ensures failed { IsErrOf result ClaimFault.Failed → Rose (R.state rack.old).faults (R.state rack.new).faults }
-        ensures no_fault { ¬ IsErrOf result ClaimFault.Failed → (R.state rack.new).faults ≡ (R.state rack.old).faults }
-        ensures arms { (R.state rack.new).arms ≡ (R.state rack.old).arms }
-        ensures crashes { (R.state rack.new).crashes ≡ (R.state rack.old).crashes }
+        // It fails only where the rack did, and makes at most 14 calls of it.
+        ensures owes { Owes 14 (IsErrOf result ClaimFault.Failed) (R.state rack.old) (R.state rack.new) }
     {
         if let Some(fault) = self.refusal(epoch, tag, least) {
             return Err(fault);
@@ -239,19 +221,21 @@ impl SpentStore {
 
         // A refusal changes nothing, and makes no call on the rack.
         ensures refused { IsErrOf result RetireFault.RootFull → self.new ≡ self.old }
-        ensures unwritten { IsErrOf result RetireFault.RootFull → R.state rack.new ≡ R.state rack.old }
+        ensures unwritten { IsErrOf result RetireFault.RootFull → MadeNoCall (R.state rack.old) (R.state rack.new) }
+
+        // A floor that isn't above changes nothing either.
+        ensures nothing { floor ≤ self.old.book.floor → IsOk result × (self.new ≡ self.old) × MadeNoCall (R.state rack.old) (R.state rack.new) }
 
         // At every moment a crash leaves one of the stages, and after Ok the last alone.
         ensures each_moment { R.tells → AtEachMoment (OpensToOneOf self.old.shape self.old.limit (as_read (retirement_stages floor self.old.book))) (R.state rack.old) (R.state rack.new) }
+        ensures unused { R.tells → AtEachMoment (UnusedStay [] (R.state rack.old).areas) (R.state rack.old) (R.state rack.new) }
         ensures done { R.tells → OnOk result (OpensToOneOf self.old.shape self.old.limit (as_read (raised floor self.old.book ∷ [])) (R.state rack.new).areas) }
         ensures stands { R.tells → ¬ IsErrOf result RetireFault.Failed → Stands self.new (R.state rack.new).areas }
+        ensures reads { R.tells → IsErrOf result RetireFault.Failed → Contains (as_read (retirement_stages floor self.old.book)) (book_in (R.state rack.new).areas self.old.shape self.old.limit) }
         ensures room { R.tells → (R.state rack.old).room ≤ (R.state rack.new).room + 11 }
 
-        // It fails only where the rack did.
-        ensures failed { IsErrOf result RetireFault.Failed → Rose (R.state rack.old).faults (R.state rack.new).faults }
-        ensures no_fault { ¬ IsErrOf result RetireFault.Failed → (R.state rack.new).faults ≡ (R.state rack.old).faults }
-        ensures arms { (R.state rack.new).arms ≡ (R.state rack.old).arms }
-        ensures crashes { (R.state rack.new).crashes ≡ (R.state rack.old).crashes }
+        // It fails only where the rack did, and makes at most 4 calls of it.
+        ensures owes { Owes 4 (IsErrOf result RetireFault.Failed) (R.state rack.old) (R.state rack.new) }
     {
         if self.floor < floor && self.limit <= self.root.count() {
             return Err(RetireFault::RootFull);
@@ -261,275 +245,4 @@ impl SpentStore {
             Err(Failed) => Err(RetireFault::Failed),
         }
     }
-
-    /// Why a claim is refused, if it is.
-    fn refusal(&self, epoch: u64, tag: &[u8; 32], least: u64) -> Option<ClaimFault>
-        requires sound { IsTrue self.now.is_sound }
-        requires low { least ≤ epoch }
-        ensures answer { result ≡ claim_refusal self.now.limit epoch tag.now least self.now.book }
-        ensures one { self.now.spare ≤ 1 }
-    {
-        if epoch < self.floor {
-            return Some(ClaimFault::Retired { floor: self.floor });
-        }
-        if self.holds(epoch, tag) {
-            return Some(ClaimFault::Spent);
-        }
-        if self.is_full(epoch, least) {
-            return Some(ClaimFault::ShardFull);
-        }
-        None
-    }
-
-    /// Whether the epoch's log is full, or the root has no room for what a claim needs.
-    fn is_full(&self, epoch: u64, least: u64) -> bool
-        requires low { least ≤ epoch }
-        ensures { (tag : List ℕ) → result ≡ is_full self.now.limit epoch tag least self.now.book }
-    {
-        let needed = records_needed(self.floor < least, has_log(&self.logs, epoch));
-        self.limit <= tags_in(&self.logs, epoch) || self.limit < self.root.count() + needed
-    }
-
-    /// Does what a claim does that isn't refused.
-    fn accept<R: Rack>(
-        &mut self,
-        rack: &mut R,
-        epoch: u64,
-        tag: &[u8; 32],
-        least: u64,
-    ) -> Result<(), Failed>
-        requires sound { IsTrue self.old.is_sound }
-        requires spare { 1 ≤ self.old.spare }
-        requires low { least ≤ epoch }
-        requires high { epoch ≤ least + 1 }
-        requires accepted { claim_refusal self.old.limit epoch tag.now least self.old.book ≡ None }
-        requires stands { R.tells → Stands self.old (R.state rack.old).areas }
-        requires room { R.tells → 57 ≤ (R.state rack.old).room }
-        ensures ok { OnOk result (self.new ≡ record self.old { book = claimed epoch tag.now least self.old.book; spare = 0 }) }
-        ensures failed { OnErr result (self.new ≡ record self.old { book = self.new.book; is_sound = false; spare = self.new.spare }) }
-        ensures stands { R.tells → OnOk result (Stands self.new (R.state rack.new).areas) }
-        ensures each_moment { R.tells → AtEachMoment (OpensToOneOf self.old.shape self.old.limit (as_read (claim_stages epoch tag.now least self.old.book))) (R.state rack.old) (R.state rack.new) }
-        ensures room { R.tells → (R.state rack.old).room ≤ (R.state rack.new).room + 57 }
-        ensures fault { CountsFault (R.state rack.old) (R.state rack.new) result }
-    {
-        self.raise(rack, least)?;
-        if has_log(&self.logs, epoch) {
-            self.add(rack, epoch, tag)
-        } else {
-            self.begin(rack, epoch, tag)
-        }
-    }
-
-    /// Raises the floor, where it rises.
-    fn raise<R: Rack>(&mut self, rack: &mut R, floor: u64) -> Result<(), Failed>
-        requires sound { IsTrue self.old.is_sound }
-        requires fits { self.old.book.floor < floor → length self.old.book.roots < self.old.limit }
-        requires stands { R.tells → Stands self.old (R.state rack.old).areas }
-        requires room { R.tells → 11 ≤ (R.state rack.old).room }
-        ensures ok { OnOk result (self.new ≡ record self.old { book = raised floor self.old.book }) }
-        ensures failed { OnErr result (self.new ≡ record self.old { is_sound = false }) }
-        ensures stands { R.tells → OnOk result (Stands self.new (R.state rack.new).areas) }
-        ensures each_moment { R.tells → AtEachMoment (OpensToOneOf self.old.shape self.old.limit (as_read (retirement_stages floor self.old.book))) (R.state rack.old) (R.state rack.new) }
-        ensures room { R.tells → (R.state rack.old).room ≤ (R.state rack.new).room + 11 }
-        ensures fault { CountsFault (R.state rack.old) (R.state rack.new) result }
-    {
-        if floor <= self.floor {
-            return Ok(());
-        }
-        self.append_root(rack, &RootRecord::Floor(floor))?;
-        self.floor = floor;
-        keep_from(&mut self.logs, floor);
-        Ok(())
-    }
-
-    /// Begins an epoch, and spends its first tag.
-    fn begin<R: Rack>(&mut self, rack: &mut R, epoch: u64, tag: &[u8; 32]) -> Result<(), Failed>
-        requires sound { IsTrue self.old.is_sound }
-        requires spare { 1 ≤ self.old.spare }
-        requires new { has_begun epoch self.old.book ≡ false }
-        requires near { IsNear self.old.book.floor epoch }
-        requires fits { length self.old.book.roots < self.old.limit }
-        requires stands { R.tells → Stands self.old (R.state rack.old).areas }
-        requires room { R.tells → 46 ≤ (R.state rack.old).room }
-        ensures ok { OnOk result (self.new ≡ record self.old { book = added epoch tag.now (begun_with epoch self.old.book); spare = 0 }) }
-        ensures failed { OnErr result (self.new ≡ record self.old { book = self.new.book; is_sound = false; spare = self.new.spare }) }
-        ensures stands { R.tells → OnOk result (Stands self.new (R.state rack.new).areas) }
-        ensures each_moment { R.tells → AtEachMoment (OpensToOneOf self.old.shape self.old.limit (as_read (beginning_stages epoch tag.now self.old.book))) (R.state rack.old) (R.state rack.new) }
-        ensures room { R.tells → (R.state rack.old).room ≤ (R.state rack.new).room + 46 }
-        ensures fault { CountsFault (R.state rack.old) (R.state rack.new) result }
-    {
-        let tags = self.take_fresh();
-        let mut log = match TagLog::start(rack, epoch, self.limit, tags) {
-            Ok(log) => log,
-            Err(failed) => {
-                self.sound = false;
-                return Err(failed);
-            }
-        };
-        self.append_root(rack, &RootRecord::Begin(epoch))?;
-        match log.append(rack, tag) {
-            Ok(()) => {
-                self.logs.push_reserved(log);
-                Ok(())
-            }
-            Err(failed) => {
-                self.sound = false;
-                Err(failed)
-            }
-        }
-    }
-
-    /// Spends a tag of an epoch that has begun.
-    fn add<R: Rack>(&mut self, rack: &mut R, epoch: u64, tag: &[u8; 32]) -> Result<(), Failed>
-        requires sound { IsTrue self.old.is_sound }
-        requires spare { 1 ≤ self.old.spare }
-        requires there { has_begun epoch self.old.book ≡ true }
-        requires fits { length (filter (λ pair. pair.0 == epoch) (pairs self.old.book)) < self.old.limit }
-        requires stands { R.tells → Stands self.old (R.state rack.old).areas }
-        requires room { R.tells → 34 ≤ (R.state rack.old).room }
-        ensures ok { OnOk result (self.new ≡ record self.old { book = added epoch tag.now self.old.book; spare = 0 }) }
-        ensures failed { OnErr result (self.new ≡ record self.old { is_sound = false; spare = self.new.spare }) }
-        ensures stands { R.tells → OnOk result (Stands self.new (R.state rack.new).areas) }
-        ensures each_moment { R.tells → AtEachMoment (OpensToOneOf self.old.shape self.old.limit (as_read (self.old.book ∷ added epoch tag.now self.old.book ∷ []))) (R.state rack.old) (R.state rack.new) }
-        ensures room { R.tells → (R.state rack.old).room ≤ (R.state rack.new).room + 34 }
-        ensures fault { CountsFault (R.state rack.old) (R.state rack.new) result }
-    {
-        let place = place_of(&self.logs, epoch);
-        self.ready = false;
-        match self.logs[place].append(rack, tag) {
-            Ok(()) => Ok(()),
-            Err(failed) => {
-                self.sound = false;
-                Err(failed)
-            }
-        }
-    }
-
-    /// Puts a record behind those of the root.
-    fn append_root<R: Rack>(&mut self, rack: &mut R, root: &RootRecord) -> Result<(), Failed>
-        requires sound { IsTrue self.old.is_sound }
-        requires fits { length self.old.book.roots < self.old.limit }
-        requires stands { R.tells → Stands self.old (R.state rack.old).areas }
-        requires room { R.tells → 11 ≤ (R.state rack.old).room }
-        ensures ok { OnOk result (self.new ≡ record self.old { book = record self.old.book { roots = self.old.book.roots ++ root.now ∷ [] } }) }
-        ensures failed { OnErr result (self.new ≡ record self.old { is_sound = false }) }
-        ensures rest { R.tells → OnOk result (IsAtRest 9 0 (R.state rack.new).areas) }
-        ensures records { R.tells → OnOk result (records 9 (contents_of 0 (R.state rack.new)) ≡ records 9 (contents_of 0 (R.state rack.old)) ++ spell_root root.now ∷ []) }
-        ensures each_moment { R.tells → AtEachMoment (EachImage 0 (λ image. IsOldOrWith (records 9 (contents_of 0 (R.state rack.old))) (spell_root root.now) (records 9 image)) (R.state rack.old).areas) (R.state rack.old) (R.state rack.new) }
-        ensures room { R.tells → (R.state rack.old).room ≤ (R.state rack.new).room + 11 }
-        ensures fault { CountsFault (R.state rack.old) (R.state rack.new) result }
-    {
-        match self.root.append(rack, root.to_bytes().as_slice()) {
-            Ok(()) => {
-                self.roots.push(root);
-                Ok(())
-            }
-            Err(LogAppend::Failed) => {
-                self.sound = false;
-                Err(Failed)
-            }
-            Err(LogAppend::LogFull) => unreachable!(),
-        }
-    }
-
-    /// The room for the tags of an epoch that begins. No claim finds room then.
-    fn take_fresh(&mut self) -> Vec<[u8; 32]>
-        requires { 1 ≤ self.old.spare }
-        ensures empty { result.items ≡ [] }
-        ensures room { 0 < vec_capacity result }
-        ensures store { self.new ≡ record self.old { spare = 0 } }
-    {
-        self.ready = false;
-        match self.fresh.take() {
-            Some(tags) => tags,
-            None => unreachable!(),
-        }
-    }
-}
-
-/// How many root records a claim needs: one where the floor rises, and one where the epoch hasn't begun.
-fn records_needed(rises: bool, has_begun: bool) -> u64
-    ensures { result ≡ (if rises then 1 else 0) + (if has_begun then 0 else 1) }
-{
-    let floor = if rises { 1 } else { 0 };
-    let begin = if has_begun { 0 } else { 1 };
-    floor + begin
-}
-
-/// Whether one of these logs is the epoch's.
-fn has_log(logs: &[TagLog], epoch: u64) -> bool
-    ensures { result ≡ list_any (λ log. log.epoch == epoch) logs.now }
-{
-    logs.iter().any(|log| log.epoch() == epoch)
-}
-
-/// How many tags the logs of an epoch have.
-fn tags_in(logs: &[TagLog], epoch: u64) -> u64
-    requires { length logs.now ≤ 2 }
-    ensures value { result ≡ sum_by (λ log. if log.epoch == epoch then length log.tags else 0) logs.now }
-    ensures bound { result ≤ 2 ^ 27 }
-{
-    let mut count = 0;
-    'counting: for log in logs {
-        if log.epoch() == epoch {
-            count += log.len();
-        }
-    }
-    count
-}
-
-/// Where the log of an epoch stands.
-fn place_of(logs: &[TagLog], epoch: u64) -> usize
-    requires { list_any (λ log. log.epoch == epoch) logs.now ≡ true }
-    ensures within { result < length logs.now }
-    ensures there { (log : TagLogState) → (slice_index_or logs.now result log).epoch ≡ epoch }
-{
-    'looking: for (i, log) in logs.iter().enumerate() {
-        if log.epoch() == epoch {
-            return i;
-        }
-    }
-    unreachable!()
-}
-
-/// Keeps the logs of a floor and the epochs above it.
-fn keep_from(logs: &mut Vec<TagLog>, floor: u64)
-    ensures logs { logs.new.items ≡ filter (λ log. nat_le floor log.epoch) logs.old.items }
-    ensures fewer { vec_len logs.new ≤ vec_len logs.old }
-    ensures capacity { vec_capacity logs.old ≤ vec_capacity logs.new }
-{
-    logs.retain(|log| floor <= log.epoch());
-}
-
-/// Whether one of these logs is the epoch's and has the tag.
-fn is_in(logs: &[TagLog], epoch: u64, tag: &[u8; 32]) -> bool
-    ensures { result ≡ list_any (λ log. log.epoch == epoch && list_any (λ other. bytes_eq other tag.now) log.tags) logs.now }
-{
-    logs.iter().any(|log| log.epoch() == epoch && log.has(tag))
-}
-
-/// How many different tags are spent in these logs.
-fn spent_in(logs: &[TagLog]) -> u64
-    requires { length logs.now ≤ 2 }
-    ensures { result ≡ sum_by (λ log. books.distinct_count log.tags) logs.now }
-{
-    let mut spent = 0;
-    'counting: for log in logs {
-        spent += log.spent();
-    }
-    spent
-}
-
-/// Makes room for a tag more in each log.
-fn reserve_logs(logs: &mut Vec<TagLog>) -> Result<(), Memory>
-    ensures same { map epoch_log logs.new.items ≡ map epoch_log logs.old.items }
-    ensures capacity { vec_capacity logs.old ≤ vec_capacity logs.new }
-    ensures kept { (limit : ℕ) → (sound : Bool) → AreOfStore limit sound false logs.old.items → AreOfStore limit sound false logs.new.items }
-    ensures ready { (limit : ℕ) → (sound : Bool) → AreOfStore limit sound false logs.old.items → OnOk result (AreOfStore limit sound true logs.new.items) }
-{
-    let count = logs.len();
-    'reserving: for i in 0..count {
-        logs[i].reserve()?;
-    }
-    Ok(())
 }

@@ -2,6 +2,7 @@
 // refused, and what is there after a crash at each call of a claim.
 ghost use Rattle.std.specs.Prelude.{◌≡◌, ◌+◌, ◌<◌, ◌≤◌, ◌^◌, IsTrue};
 ghost use Rattle.spent_store.specs.Stores.{Stands};
+ghost use Rattle.mix_base.specs.Shards.{IsShape};
 
 use crate::{Book, ClaimFault, OpenStore, RetireFault, SpentStore, look};
 use mix_base::{Memory, Shape};
@@ -125,13 +126,14 @@ fn found<R: Rack>(alloc: Global, rack: &mut R) -> Result<(u64, bool, bool, bool)
 }
 
 fn opens<R: Rack>(alloc: Global, rack: &mut R, shape: &Shape) -> Result<(), OpenStore>
-    requires shards { 1 ≤ shape.now.shards }
-    requires most { shape.now.shards ≤ 16 }
-    requires index { shape.now.index < shape.now.shards }
+    requires shape { IsShape shape.now }
 {
     let store = SpentStore::open(alloc, rack, shape, 100)?;
-    let _ = store.is_sound();
-    Ok(())
+    if store.is_sound() {
+        Ok(())
+    } else {
+        Err(OpenStore::Failed)
+    }
 }
 
 // The calls above at the rack in memory, once each.
@@ -168,9 +170,7 @@ fn held(alloc: Global, rack: &mut MemRack) -> Result<(u64, bool, bool, bool), Op
 }
 
 fn opened(alloc: Global, rack: &mut MemRack, shape: &Shape) -> Result<(), OpenStore>
-    requires shards { 1 ≤ shape.now.shards }
-    requires most { shape.now.shards ≤ 16 }
-    requires index { shape.now.index < shape.now.shards }
+    requires shape { IsShape shape.now }
 {
     opens(alloc, rack, shape)
 }
@@ -327,9 +327,7 @@ fn opening(
     answer: Result<(), OpenStore>,
     after: &[u8],
 ) -> Result<bool, Memory>
-    requires shards { 1 ≤ shape.now.shards }
-    requires most { shape.now.shards ≤ 16 }
-    requires index { shape.now.index < shape.now.shards }
+    requires shape { IsShape shape.now }
 {
     let root = root.to_vec(alloc)?;
     let mut rack = MemRack::holding(alloc, root, Vec::new(alloc), Vec::new(alloc));
@@ -352,16 +350,11 @@ fn opening_makes_a_root_or_leaves_it(rt: HostRuntime) -> Result<(), Fail> {
     assert!(rt; opening(alloc, &[0; 11], &ONE, Ok(()), MADE)?);
     let foreign = OpenStore::Foreign { area: 0, at: 0 };
     assert!(rt; opening(alloc, &[0; 12], &ONE, Err(foreign), &[0; 12])?);
-    Ok(())
-}
-
-#[test]
-fn a_root_of_another_shape_is_left(rt: HostRuntime) -> Result<(), Fail> {
     let two = Shape {
         shards: 2,
         index: 1,
     };
     let other = OpenStore::OtherShape { stored: ONE };
-    assert!(rt; opening(rt.alloc(), MADE, &two, Err(other), MADE)?);
+    assert!(rt; opening(alloc, MADE, &two, Err(other), MADE)?);
     Ok(())
 }

@@ -1,5 +1,6 @@
 // Roots that no store writes, each with its place; what stores write, read again; and the order of what is looked for.
 ghost use Rattle.std.specs.Prelude.{◌<◌, ◌≤◌, ◌^◌};
+ghost use Rattle.mix_base.specs.Shards.{IsShape};
 
 use crate::{Book, OpenStore, look};
 use mix_base::Shape;
@@ -40,9 +41,7 @@ fn looked<R: Rack>(
 ) -> Result<Book, OpenStore>
     requires some { 2 ≤ limit }
     requires limit { limit ≤ 2 ^ 26 }
-    requires shards { 1 ≤ shape.now.shards }
-    requires most { shape.now.shards ≤ 16 }
-    requires index { shape.now.index < shape.now.shards }
+    requires shape { IsShape shape.now }
 {
     look(alloc, rack, shape, limit)
 }
@@ -72,88 +71,44 @@ const fn foreign(area: u8, at: u64) -> OpenStore {
     OpenStore::Foreign { area, at }
 }
 
-// The bytes of these records and logs are refused so, for one shard and logs of at most `limit` records.
-fn expect_refused(
+// What a look finds of these records and logs, for the first of so many shards, and logs of at most `limit` records.
+fn found(
     rt: &impl Abort,
     alloc: Global,
     records: &[(u8, u64)],
     tags: (&[u8], &[u8]),
+    shards: u8,
     limit: u16,
-    want: OpenStore,
-) -> Result<(), Fail> {
+) -> Result<Result<Book, OpenStore>, Fail> {
     let root = root(alloc, records)?;
     let one = log(alloc, tags.0)?;
     let two = log(alloc, tags.1)?;
-    assert_eq!(rt;
-        look_at(rt, alloc, &root, (&one, &two), 1, limit)?,
-        Err(want)
-    );
-    Ok(())
-}
-
-// A root of these records is refused so.
-fn expect_bad_root(
-    rt: &impl Abort,
-    alloc: Global,
-    records: &[(u8, u64)],
-    at: u64,
-) -> Result<(), Fail> {
-    expect_refused(rt, alloc, records, (&[], &[]), 100, foreign(0, at))
+    look_at(rt, alloc, &root, (&one, &two), shards, limit)
 }
 
 #[test]
 fn roots_that_no_store_writes(rt: HostRuntime) -> Result<(), Fail> {
-    let alloc = rt.alloc();
-    expect_bad_root(&rt, alloc, &[(2, 0)], 1)?;
-    expect_bad_root(&rt, alloc, &[(1, 4352)], 1)?;
-    expect_bad_root(&rt, alloc, &[(1, 257)], 1)?;
-    expect_bad_root(&rt, alloc, &[(1, 256), (3, 0)], 11)?;
-    expect_bad_root(&rt, alloc, &[(1, 256), (2, 2)], 11)?;
-    expect_bad_root(&rt, alloc, &[(1, 256), (9, 0)], 11)
-}
-
-#[test]
-fn records_against_those_before(rt: HostRuntime) -> Result<(), Fail> {
-    let alloc = rt.alloc();
-    expect_bad_root(&rt, alloc, &[(1, 256), (2, 0), (2, 0)], 21)?;
-    expect_bad_root(&rt, alloc, &[(1, 256), (3, u64::MAX), (2, 0)], 21)?;
-    expect_bad_root(&rt, alloc, &[(1, 256), (1, 256)], 11)
-}
-
-#[test]
-fn roots_without_a_record(rt: HostRuntime) -> Result<(), Fail> {
-    let alloc = rt.alloc();
-    let none = (b"".as_slice(), b"".as_slice());
-    let long = look_at(&rt, alloc, &[0; 12], none, 1, 2)?;
-    assert_eq!(rt; long, Err(foreign(0, 0)));
-    let book = look_at(&rt, alloc, &[0; 11], none, 1, 2)??;
-    assert_eq!(rt; (book.floor, book.spent, book.root), (0, 0, 0));
-    Ok(())
-}
-
-// A root that was made for the first of four shards, and a rack that nothing was written to.
-#[test]
-fn a_rack_of_another_number_of_shards(rt: HostRuntime) -> Result<(), Fail> {
-    let alloc = rt.alloc();
-    let root = b"\x01\x01\x00\x00\x00\x00\x00\x00\x04\x00\x00".as_slice();
-    let none = (b"".as_slice(), b"".as_slice());
-    let stored = Shape {
-        shards: 4,
-        index: 0,
-    };
-    let other = look_at(&rt, alloc, root, none, 8, 100)?;
-    assert_eq!(rt; other, Err(OpenStore::OtherShape { stored }));
-    let book = look_at(&rt, alloc, root, none, 4, 100)??;
-    assert_eq!(rt; (book.floor, book.spent, book.root), (0, 0, 1));
-    let empty = look_at(&rt, alloc, b"", none, 4, 100)??;
-    assert_eq!(rt; (empty.floor, empty.spent, empty.root), (0, 0, 0));
+    let rows: [(&[(u8, u64)], u64); 9] = [
+        (&[(2, 0)], 1),
+        (&[(1, 4352)], 1),
+        (&[(1, 257)], 1),
+        (&[(1, 256), (3, 0)], 11),
+        (&[(1, 256), (2, 2)], 11),
+        (&[(1, 256), (9, 0)], 11),
+        (&[(1, 256), (1, 256)], 11),
+        (&[(1, 256), (2, 0), (2, 0)], 21),
+        (&[(1, 256), (3, u64::MAX), (2, 0)], 21),
+    ];
+    for (records, at) in rows {
+        let answer = found(&rt, rt.alloc(), records, (&[], &[]), 1, 100)?;
+        assert_eq!(rt; answer, Err(foreign(0, at)));
+    }
     Ok(())
 }
 
 // The records of a root are counted first, then judged; then the shape; then area 1, then area 2.
 #[test]
 fn the_first_objection(rt: HostRuntime) -> Result<(), Fail> {
-    let alloc = rt.alloc();
     let three: &[u8] = &[7, 7, 8];
     let four: &[u8] = &[7, 7, 8, 9];
     let stored = Shape {
@@ -161,49 +116,56 @@ fn the_first_objection(rt: HostRuntime) -> Result<(), Fail> {
         index: 0,
     };
     let begun: &[(u8, u64)] = &[(1, 256), (2, 1), (2, 0)];
-    expect_refused(&rt, alloc, begun, (three, three), 2, foreign(0, 20))?;
-    expect_refused(&rt, alloc, begun, (four, four), 3, foreign(1, 99))?;
-    expect_refused(&rt, alloc, begun, (three, four), 3, foreign(2, 99))?;
-    let other = OpenStore::OtherShape { stored };
-    expect_refused(&rt, alloc, &[(1, 512), (2, 1)], (three, three), 2, other)
-}
-
-// The floor, the number of spent pairs and the number of root records, for stores of `shards` shards.
-fn expect_book(
-    rt: &impl Abort,
-    alloc: Global,
-    records: &[(u8, u64)],
-    tags: (&[u8], &[u8]),
-    shards: u8,
-    want: (u64, u64, u64),
-) -> Result<(), Fail> {
-    let root = root(alloc, records)?;
-    let one = log(alloc, tags.0)?;
-    let two = log(alloc, tags.1)?;
-    let book = look_at(rt, alloc, &root, (&one, &two), shards, 100)??;
-    assert_eq!(rt; (book.floor, book.spent, book.root), want);
+    let rows = [
+        (begun, (three, three), 2, foreign(0, 20)),
+        (begun, (four, four), 3, foreign(1, 99)),
+        (begun, (three, four), 3, foreign(2, 99)),
+        (
+            &[(1, 512), (2, 1)],
+            (three, three),
+            2,
+            OpenStore::OtherShape { stored },
+        ),
+    ];
+    for (records, tags, limit, want) in rows {
+        let answer = found(&rt, rt.alloc(), records, tags, 1, limit)?;
+        assert_eq!(rt; answer, Err(want));
+    }
     Ok(())
 }
 
+// The floor, the number of spent pairs and the number of root records, for so many shards.
 #[test]
 fn what_books_come_to(rt: HostRuntime) -> Result<(), Fail> {
+    let rows: [(&[(u8, u64)], (&[u8], &[u8]), u8, (u64, u64, u64)); 5] = [
+        (&[], (&[], &[]), 4, (0, 0, 0)),
+        (&[(1, 1024)], (&[], &[]), 4, (0, 0, 1)),
+        (&[(1, 256), (2, 1)], (&[], &[10]), 1, (0, 1, 2)),
+        (&[(1, 256), (2, 0)], (&[10, 11], &[]), 1, (0, 2, 2)),
+        (&[(1, 256), (2, 0)], (&[7, 7, 8], &[9]), 1, (0, 2, 2)),
+    ];
+    for (records, tags, shards, want) in rows {
+        let book = found(&rt, rt.alloc(), records, tags, shards, 100)??;
+        assert_eq!(rt; (book.floor, book.spent, book.root), want);
+    }
+    Ok(())
+}
+
+// A root without a record may have 11 bytes and no more; and one that was made for the first of four shards is none of
+// eight.
+#[test]
+fn roots_without_a_record_or_of_another_shape(rt: HostRuntime) -> Result<(), Fail> {
     let alloc = rt.alloc();
-    expect_book(&rt, alloc, &[(1, 1024)], (&[], &[]), 4, (0, 0, 1))?;
-    expect_book(&rt, alloc, &[(1, 256), (2, 1)], (&[], &[10]), 1, (0, 1, 2))?;
-    expect_book(
-        &rt,
-        alloc,
-        &[(1, 256), (2, 0)],
-        (&[10, 11], &[]),
-        1,
-        (0, 2, 2),
-    )?;
-    expect_book(
-        &rt,
-        alloc,
-        &[(1, 256), (2, 0)],
-        (&[7, 7, 8], &[9]),
-        1,
-        (0, 2, 2),
-    )
+    let none = (b"".as_slice(), b"".as_slice());
+    let long = look_at(&rt, alloc, &[0; 12], none, 1, 2)?;
+    assert_eq!(rt; long, Err(foreign(0, 0)));
+    let book = look_at(&rt, alloc, &[0; 11], none, 1, 2)??;
+    assert_eq!(rt; (book.floor, book.spent, book.root), (0, 0, 0));
+    let stored = Shape {
+        shards: 4,
+        index: 0,
+    };
+    let other = found(&rt, alloc, &[(1, 1024)], (&[], &[]), 8, 100)?;
+    assert_eq!(rt; other, Err(OpenStore::OtherShape { stored }));
+    Ok(())
 }

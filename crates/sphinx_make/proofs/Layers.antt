@@ -5,14 +5,15 @@ use Rattle.std.proofs.lemmas.List.{drop_more, length-append, length-replicate}
 use Rattle.packet_form.specs.Geometry.{Sizes, block}
 use Rattle.packet_form.specs.Geometry as lengths
 use Rattle.packet_form.specs.declared.commands.Exit.TheVariants as exits
-use Rattle.sphinx_make.specs.Making.{AllAgree, decrypted_along, encrypted_along, keyed}
+use Rattle.sphinx_make.specs.Carrying.{CarriesEachPayload, CarriesSpelled, IsDelivered}
+use Rattle.sphinx_make.specs.Making.{decrypted_along, encrypted_along, keyed}
 use Rattle.sphinx_make.specs.NestedPath.{Arrives, Carries, Ends, GoesOut, KeyedHop}
 use Rattle.sphinx_make.specs.declared.path.HopSpec.{HopSpec}
 use Rattle.sphinx_unwrap.proofs.Spelling.{body_of-spell, read_block-spell}
 use Rattle.sphinx_unwrap.specs.Layer.{Layer, opened}
 use Rattle.sphinx_unwrap.specs.Outcome.{out, out_by, received}
 use Rattle.sphinx_unwrap.specs.Payload.{HasRoom, body_of, read_block, spell}
-use Rattle.sphinx_unwrap.specs.declared.fault.Refused.{Refused}
+use Rattle.sphinx_unwrap.specs.declared.faults.Refused.{Refused}
 use Rattle.sphinx_unwrap.specs.declared.outcome.Out.TheVariants as outs
 
 pub encrypted_along-nil : (suite : SuiteMeaning) (wides : List (List ℕ)) (payload : List ℕ) → length wides ≡ 0 → encrypted_along suite wides payload ≡ payload
@@ -84,9 +85,9 @@ pub record IsMade (suite : SuiteMeaning) (sizes : Sizes) (path : List HopSpec) (
   pub room : HasRoom sizes reply_block
   pub long : length body ≡ sizes.body
   pub parts : packet ≡ header ++ encrypted_along suite wides (spell sizes reply_block body)
-  pub carries : (keys : List (List ℕ)) (payload : List ℕ) → AllAgree suite.kem path keys → length payload ≡ lengths.payload sizes → Carries suite sizes (keyed path keys) (exits.Recipient recipient) (header ++ payload) (decrypted_along suite wides payload)
+  pub carries : CarriesEachPayload suite sizes path (exits.Recipient recipient) header wides
 
-pub carries-made_packet : (suite : SuiteMeaning) (sizes : Sizes) (path : List HopSpec) (recipient body : List ℕ) (reply_block : Option (List ℕ)) (packet : List ℕ) → IsMade suite sizes path recipient body reply_block packet → (keys : List (List ℕ)) → AllAgree suite.kem path keys → Carries suite sizes (keyed path keys) (exits.Recipient recipient) packet (spell sizes reply_block body)
+pub carries-made_packet : (suite : SuiteMeaning) (sizes : Sizes) (path : List HopSpec) (recipient body : List ℕ) (reply_block : Option (List ℕ)) (packet : List ℕ) → IsMade suite sizes path recipient body reply_block packet → CarriesSpelled suite sizes path recipient body reply_block packet
 carries-made_packet suite sizes path recipient body reply_block packet made = λ keys agree.
     let payload : List ℕ = spell sizes reply_block body in
     let payload_long : length payload ≡ lengths.payload sizes = length-spell sizes body reply_block made.room made.long in
@@ -98,6 +99,6 @@ carries-made_packet suite sizes path recipient body reply_block packet made = λ
     subst (λ (xs : List ℕ). Carries suite sizes (keyed path keys) (exits.Recipient recipient) xs (decrypted_along suite made.wides (encrypted_along suite made.wides payload))) (sym made.parts) carried in
     subst (λ (found : List ℕ). Carries suite sizes (keyed path keys) (exits.Recipient recipient) packet found) back along
 
-pub arrives-made_packet : (suite : SuiteMeaning) (sizes : Sizes) (path : List HopSpec) (recipient body : List ℕ) (reply_block : Option (List ℕ)) (packet : List ℕ) → IsMade suite sizes path recipient body reply_block packet → (keys : List (List ℕ)) → AllAgree suite.kem path keys → Arrives suite sizes (keyed path keys) (outs.Deliver recipient body reply_block) packet
+pub arrives-made_packet : (suite : SuiteMeaning) (sizes : Sizes) (path : List HopSpec) (recipient body : List ℕ) (reply_block : Option (List ℕ)) (packet : List ℕ) → IsMade suite sizes path recipient body reply_block packet → IsDelivered suite sizes path recipient body reply_block packet
 arrives-made_packet suite sizes path recipient body reply_block packet made = λ keys agree.
     arrives-carried suite sizes recipient body reply_block (keyed path keys) packet made.room (carries-made_packet suite sizes path recipient body reply_block packet made keys agree)

@@ -1,12 +1,12 @@
 -- A path that is sealed hop by hop.
-use Rattle.std.proofs.Common.{◌≡◌, ℕ, suc, ◌+◌, ◌-◌, ◌*◌, ◌≤◌, ◌<◌, List, [], ◌∷◌, ◌++◌, length, drop, take, get_or, Result, Ok, Err, All, refl, sym, ap, subst, ◌∙◌, arith, append_assoc}
+use Rattle.std.proofs.Common.{◌≡◌, ℕ, suc, ◌+◌, ◌-◌, ◌*◌, ◌≤◌, ◌<◌, List, [], ◌∷◌, ◌++◌, length, drop, take, get_or, Option, Some, None, Result, Ok, Err, All, refl, sym, ap, subst, ◌∙◌, arith, append_assoc}
 use Rattle.std.specs.Option.{ok_or}
 use Rattle.std.proofs.lemmas.List.{append-nil, drop_all, drop_more}
+use Rattle.mix_base.specs.Results.{◌>>=◌, IsRefusedBy}
 use Rattle.mix_base.specs.Suites.{SuiteMeaning}
-use Rattle.sphinx_make.specs.Making.{◌>>=◌, Fails, sealed_hop, sealed_path}
-use Rattle.sphinx_make.specs.declared.fault.MakeFault.{MakeFault}
-use Rattle.sphinx_make.specs.declared.fault.MakeFault.TheVariants.{KeyForm}
-use Rattle.sphinx_make.specs.declared.fault.MakeFault.TheVariants as faults
+use Rattle.sphinx_make.specs.Making.{sealed_hop, sealed_path}
+use Rattle.sphinx_make.specs.declared.faults.MakeFault.{MakeFault}
+use Rattle.sphinx_make.specs.declared.faults.MakeFault.TheVariants.{KeyForm}
 use Rattle.sphinx_make.specs.declared.path.HopSpec.{HopSpec}
 use Rattle.sphinx_make.specs.declared.path.SealedHop.{SealedHop}
 
@@ -56,15 +56,11 @@ stops suite why front place n path spec rest own total coins_are within is own_i
     let here : ok_or (sealed_hop suite spec (take suite.kem.coins rest)) (KeyForm place) ≡ Err why = ap (λ xs. ok_or (sealed_hop suite spec xs) (KeyForm place)) (sym own_coins) ∙ refused in
     sym so_far ∙ ap (λ (specs : List HopSpec). with_front front (sealed_path suite place specs rest)) cut ∙ ends suite why front place spec behind rest here
 
-pub stops_at : (suite : SuiteMeaning) (why : MakeFault) (front : List SealedHop) (place n : ℕ) (path : List HopSpec) (spec : HopSpec) (rest own : List ℕ) (total : Result (List SealedHop) MakeFault)
-    → suite.kem.coins ≡ n → place < length path → spec ≡ get_or path place spec → own ≡ take n rest → Fails why (ok_or (sealed_hop suite spec own) (KeyForm place))
-    → with_front front (sealed_path suite place (drop place path) rest) ≡ total → Fails why total
-stops_at suite faults.Memory front place n path spec rest own total coins_are within is own_is refused so_far = tt
-stops_at suite faults.PathLength front place n path spec rest own total coins_are within is own_is refused so_far = stops suite faults.PathLength front place n path spec rest own total coins_are within is own_is refused so_far
-stops_at suite faults.BodyLength front place n path spec rest own total coins_are within is own_is refused so_far = stops suite faults.BodyLength front place n path spec rest own total coins_are within is own_is refused so_far
-stops_at suite faults.BlockLength front place n path spec rest own total coins_are within is own_is refused so_far = stops suite faults.BlockLength front place n path spec rest own total coins_are within is own_is refused so_far
-stops_at suite (faults.Delay hop) front place n path spec rest own total coins_are within is own_is refused so_far = stops suite (faults.Delay hop) front place n path spec rest own total coins_are within is own_is refused so_far
-stops_at suite (faults.KeyForm hop) front place n path spec rest own total coins_are within is own_is refused so_far = stops suite (faults.KeyForm hop) front place n path spec rest own total coins_are within is own_is refused so_far
+pub stops_at : (suite : SuiteMeaning) (cause : Option MakeFault) (front : List SealedHop) (place n : ℕ) (path : List HopSpec) (spec : HopSpec) (rest own : List ℕ) (total : Result (List SealedHop) MakeFault)
+    → suite.kem.coins ≡ n → place < length path → spec ≡ get_or path place spec → own ≡ take n rest → IsRefusedBy cause (ok_or (sealed_hop suite spec own) (KeyForm place))
+    → with_front front (sealed_path suite place (drop place path) rest) ≡ total → IsRefusedBy cause total
+stops_at suite None front place n path spec rest own total coins_are within is own_is refused so_far = tt
+stops_at suite (Some why) front place n path spec rest own total coins_are within is own_is refused so_far = stops suite why front place n path spec rest own total coins_are within is own_is refused so_far
 
 -- all of the path
 pub all_sealed : (suite : SuiteMeaning) (front : List SealedHop) (place : ℕ) (path : List HopSpec) (rest : List ℕ) (total : Result (List SealedHop) MakeFault) → length path ≤ place → with_front front (sealed_path suite place (drop place path) rest) ≡ total → total ≡ Ok front

@@ -1,5 +1,6 @@
 -- What is known of a path that was sealed: each hop is made from its own coins, and secret keys that agree with the path
 -- open all of them.
+use Rattle.std.specs.Prelude.{⊤}
 use Rattle.std.proofs.Common.{◌≡◌, ℕ, suc, ◌+◌, ◌*◌, ◌^◌, ◌≤◌, ◌<◌, List, [], ◌∷◌, ◌++◌, length, drop, take, get_or, Bool, true, false, cond, ◌&&◌, ltb, leb, eqb, Option, Some, None, IfSome, IsSomeAnd, Result, Ok, Err, All, refl, sym, ap, subst, ◌∙◌, arith, length-drop, Fits, w32}
 use Rattle.std.specs.List.{AllByRecursion, position, position_or_len}
 use Rattle.std.specs.Option.{option_map, option_map_or, ok_or}
@@ -9,18 +10,20 @@ use Rattle.std.proofs.Math.Nat.{mul-le-mul_right}
 use Rattle.std.proofs.lemmas.List.Elements.{All-cons, All-drop, All-from_get_or, All-take}
 use Rattle.std.proofs.Math.Facts.{Fits-lt-pow}
 use Rattle.std.proofs.lemmas.List.Sums.{fails_before_first}
+use Rattle.mix_base.specs.Results.{◌>>=◌}
 use Rattle.mix_base.specs.Suites.{Agrees, SuiteMeaning}
 use Rattle.packet_form.specs.Commands.{HasLengths, longest_delay}
-use Rattle.packet_form.specs.CommandLaws.{both}
+use Rattle.packet_form.proofs.CommandLaws.{both}
 use Rattle.packet_form.specs.Geometry.{Sizes, routing, slot}
 use Rattle.packet_form.specs.Geometry as lengths
 use Rattle.packet_form.specs.declared.commands.Exit.{Exit}
-use Rattle.sphinx_make.specs.HeaderLaws.{AllOpenTo, IsSealed, KeepsLengths, OpensTo, carries-made}
-use Rattle.sphinx_make.specs.Making.{◌>>=◌, AllAgree, checked, checked_count, decrypted_along, delay_refused, header_for, is_late, keyed, sealed_hop, sealed_path, wides_of}
+use Rattle.sphinx_make.proofs.HeaderLaws.{AllOpenTo, IsReady, IsSealed, KeepsLengths, OpensTo, carries-made}
+use Rattle.sphinx_make.specs.Carrying.{CarriesEachPayload}
+use Rattle.sphinx_make.specs.Making.{AllAgree, checked, checked_count, decrypted_along, delay_refused, header_for, is_late, keyed, sealed_by, sealed_hop, sealed_path, wides_of}
 use Rattle.sphinx_make.specs.NestedPath.{Carries, KeyedHop}
 use Rattle.sphinx_make.specs.Sealing.{HasKeyLengths, IsOnTime}
-use Rattle.sphinx_make.specs.declared.fault.MakeFault.{MakeFault}
-use Rattle.sphinx_make.specs.declared.fault.MakeFault.TheVariants as faults
+use Rattle.sphinx_make.specs.declared.faults.MakeFault.{MakeFault}
+use Rattle.sphinx_make.specs.declared.faults.MakeFault.TheVariants as faults
 use Rattle.sphinx_make.specs.declared.path.HopSpec.{HopSpec}
 use Rattle.sphinx_make.specs.declared.path.SealedHop.{SealedHop}
 
@@ -31,10 +34,10 @@ record IsFitting (sizes : Sizes) (path : List HopSpec) : Type 0 where
   most : length path ≤ sizes.hops
   on_time : All (λ spec. is_late spec ≡ false) path
 
-abbrev counted : Bool → Result (Unit {0}) MakeFault
+abbrev counted : Bool → Result ⊤ MakeFault
 counted test = cond test (Ok tt) (Err faults.PathLength)
 
-count_passed : (test : Bool) (next : Result (Unit {0}) MakeFault) → (counted test >>= λ fitting. next) ≡ Ok tt → (test ≡ true) × (next ≡ Ok tt)
+count_passed : (test : Bool) (next : Result ⊤ MakeFault) → (counted test >>= λ fitting. next) ≡ Ok tt → (test ≡ true) × (next ≡ Ok tt)
 count_passed true next e = (refl, e)
 count_passed false next e = cc
 
@@ -57,10 +60,6 @@ is_fitting sizes path e =
 
 -- ---- one hop
 
--- the hop that encapsulation makes
-abbrev hop_from : SuiteMeaning → HopSpec → List ℕ × List ℕ → SealedHop
-hop_from suite spec made = record { id = spec.id; delay = spec.delay; ciphertext = made.0; keys = suite.hop_keys made.1 }
-
 -- a hop is made from its own coins
 record IsSealedFrom (suite : SuiteMeaning) (spec : HopSpec) (own : List ℕ) (hop : SealedHop) : Type 0 where
   id : hop.id ≡ spec.id
@@ -69,16 +68,16 @@ record IsSealedFrom (suite : SuiteMeaning) (spec : HopSpec) (own : List ℕ) (ho
   made : suite.kem.encapsulate spec.key own ≡ Some (hop.ciphertext, secret)
   keys : hop.keys ≡ suite.hop_keys secret
 
-sealed_by : (suite : SuiteMeaning) (spec : HopSpec) (own : List ℕ) (hop : SealedHop) (test : Bool) (found : Option (List ℕ × List ℕ)) → suite.kem.encapsulate spec.key own ≡ found → cond test (option_map (hop_from suite spec) found) None ≡ Some hop → IsSealedFrom suite spec own hop
-sealed_by suite spec own hop true (Some made) e h =
-    let same : hop_from suite spec made ≡ hop = cc in
+from_encapsulation : (suite : SuiteMeaning) (spec : HopSpec) (own : List ℕ) (hop : SealedHop) (test : Bool) (found : Option (List ℕ × List ℕ)) → suite.kem.encapsulate spec.key own ≡ found → cond test (option_map (sealed_by suite spec) found) None ≡ Some hop → IsSealedFrom suite spec own hop
+from_encapsulation suite spec own hop true (Some made) e h =
+    let same : sealed_by suite spec made ≡ hop = cc in
     subst (λ (x : SealedHop). IsSealedFrom suite spec own x) same (record { id = refl; delay = refl; secret = made.1; made = e; keys = refl })
-sealed_by suite spec own hop true None e h = absurd cc
-sealed_by suite spec own hop false found e h = absurd cc
+from_encapsulation suite spec own hop true None e h = absurd cc
+from_encapsulation suite spec own hop false found e h = absurd cc
 
 is_sealed_from : (suite : SuiteMeaning) (spec : HopSpec) (own : List ℕ) (hop : SealedHop) → sealed_hop suite spec own ≡ Some hop → IsSealedFrom suite spec own hop
 unfolding sealed_hop
-is_sealed_from suite spec own hop e = sealed_by suite spec own hop (eqb (length spec.key) suite.kem.public_key) (suite.kem.encapsulate spec.key own) refl e
+is_sealed_from suite spec own hop e = from_encapsulation suite spec own hop (eqb (length spec.key) suite.kem.public_key) (suite.kem.encapsulate spec.key own) refl e
 
 -- a secret key that agrees with the hop's key opens what was made for it
 opens_to : (suite : SuiteMeaning) (spec : HopSpec) (own : List ℕ) (hop : SealedHop) (key : List ℕ) → length own ≡ suite.kem.coins → All (λ word. word < 2 ^ 32) own → Agrees suite.kem spec.key key → IsSealedFrom suite spec own hop → OpensTo suite (record { secret_key = key; id = spec.id; delay = spec.delay }) hop
@@ -99,7 +98,7 @@ on_time_from (Some delay) e = ltb-false longest_delay delay e
 
 -- each hop is made from its own coins
 abbrev AllSealedFrom : SuiteMeaning → List HopSpec → List ℕ → List SealedHop → Type 0
-AllSealedFrom suite [] coins [] = Unit {0}
+AllSealedFrom suite [] coins [] = ⊤
 AllSealedFrom suite [] coins (hop ∷ hops) = ⊥
 AllSealedFrom suite (spec ∷ path) coins [] = ⊥
 AllSealedFrom suite (spec ∷ path) coins (hop ∷ hops) = IsSealedFrom suite spec (take suite.kem.coins coins) hop × AllSealedFrom suite path (drop suite.kem.coins coins) hops
@@ -196,12 +195,12 @@ carries_along suite sizes last [] (hop ∷ hops) payload laws h is some most ope
 carries_along suite sizes last (keyed_hop ∷ keyed_path) (hop ∷ hops) payload laws h is some most opens long =
     let slots : suc (length hops) * slot sizes ≤ sizes.hops * slot sizes = mul-le-mul_right (slot sizes) most in
     let room : 0 + slot sizes + length hops * slot sizes ≤ routing sizes = omega arith in
-    carries-made suite sizes last [] keyed_hop keyed_path hop hops payload laws h is.0 is.1 opens.0 opens.1 room long
+    let ready : IsReady suite sizes last [] hop hops = record { laws = laws; exit = h; own = is.0; others = is.1; room = room } in
+    carries-made suite sizes last [] keyed_hop keyed_path hop hops payload ready opens.0 opens.1 long
 
 pub header_carries : (suite : SuiteMeaning) (sizes : Sizes) (ct : ℕ) (path : List HopSpec) (last : Exit) (hops : List SealedHop) (header : List ℕ) (wides : List (List ℕ))
     → KeepsLengths suite → HasLengths last → sizes.ct ≡ ct → All (HasKeyLengths ct) hops → AreSealed suite sizes path hops → header ≡ header_for suite sizes last hops → wides ≡ wides_of hops
-    → (keys : List (List ℕ)) (payload : List ℕ) → AllAgree suite.kem path keys → length payload ≡ lengths.payload sizes
-    → Carries suite sizes (keyed path keys) last (header ++ payload) (decrypted_along suite wides payload)
+    → CarriesEachPayload suite sizes path last header wides
 header_carries suite sizes ct path last hops header wides laws h same known sealed header_is wides_are = λ keys payload agree long.
     rw (header_is, wides_are)
     (carries_along suite sizes last (keyed path keys) hops payload laws h (is_sealed sizes ct hops same known sealed.on_time) sealed.some sealed.most (sealed.opened keys agree) long)

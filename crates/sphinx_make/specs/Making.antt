@@ -1,8 +1,9 @@
 -- How a packet is made: keys from encapsulation to each hop, the header from its last hop outwards with a filler, and
 -- the payload under the wide keys.
-use Rattle.std.specs.Prelude.{◌≡◌, ℕ, ◌+◌, ◌-◌, ◌==◌, List, [], ◌∷◌, ◌++◌, length, take, drop, map, position, replicate, nat_lt, nat_le, Bool, true, false, ◌&&◌, Option, Some, None, Result, Ok, Err, if◌then◌else◌}
+use Rattle.std.specs.Prelude.{◌≡◌, ℕ, ◌+◌, ◌-◌, ◌==◌, ⊤, List, [], ◌∷◌, ◌++◌, length, take, drop, map, position, replicate, nat_lt, nat_le, Bool, true, false, ◌&&◌, Option, Some, None, Result, Ok, Err, if◌then◌else◌}
 use Rattle.std.specs.Option.{option_map, option_map_or, ok_or}
 use Rattle.mix_base.specs.ByteLists.{xor_stream}
+use Rattle.mix_base.specs.Results.{◌>>=◌}
 use Rattle.mix_base.specs.Suites.{Agrees, KemScheme, SuiteMeaning}
 use Rattle.packet_form.specs.Commands.{longest_delay, spell}
 use Rattle.packet_form.specs.Geometry.{Sizes, slot, routing, block}
@@ -10,16 +11,10 @@ use Rattle.packet_form.specs.declared.commands.Exit.{Exit}
 use Rattle.packet_form.specs.declared.commands.Exit.TheVariants as exits
 use Rattle.sphinx_unwrap.specs.Payload as payloads
 use Rattle.sphinx_make.specs.NestedPath.{KeyedHop}
-use Rattle.sphinx_make.specs.declared.fault.MakeFault.{MakeFault}
-use Rattle.sphinx_make.specs.declared.fault.MakeFault.TheVariants as faults
+use Rattle.sphinx_make.specs.declared.faults.MakeFault.{MakeFault}
+use Rattle.sphinx_make.specs.declared.faults.MakeFault.TheVariants as faults
 use Rattle.sphinx_make.specs.declared.path.HopSpec.{HopSpec}
 use Rattle.sphinx_make.specs.declared.path.SealedHop.{SealedHop}
-
--- one step after the other: the first refusal decides
-infixl 10 ◌>>=◌
-abbrev pub ◌>>=◌ : {A B : Type 0} → Result A MakeFault → (A → Result B MakeFault) → Result B MakeFault
-(Ok x) >>= next = next x
-(Err why) >>= next = Err why
 
 -- ---- the path
 
@@ -27,25 +22,35 @@ abbrev pub ◌>>=◌ : {A B : Type 0} → Result A MakeFault → (A → Result B
 abbrev pub is_late : HopSpec → Bool
 is_late hop = option_map_or (λ delay. nat_lt longest_delay delay) hop.delay false
 
-abbrev pub delay_refused : Option ℕ → Result (Unit {0}) MakeFault
+abbrev pub delay_refused : Option ℕ → Result ⊤ MakeFault
 delay_refused None = Ok tt
 delay_refused (Some hop) = Err (faults.Delay hop)
 
 -- a path of no hop or too many is refused
-unfoldable pub checked_count : Sizes → List HopSpec → Result (Unit {0}) MakeFault
-checked_count sizes path = if nat_le 1 (length path) && nat_le (length path) sizes.hops then Ok tt else Err faults.PathLength
+unfoldable pub checked_count : Sizes → List HopSpec → Result ⊤ MakeFault
+checked_count sizes path =
+    if nat_le 1 (length path) && nat_le (length path) sizes.hops then Ok tt else Err faults.PathLength
 
 -- the refusals that need no key: of the path's length, and the first delay that is too long
-unfoldable pub checked : Sizes → List HopSpec → Result (Unit {0}) MakeFault
+unfoldable pub checked : Sizes → List HopSpec → Result ⊤ MakeFault
 checked sizes path = do
   fitting ← checked_count sizes path
   delay_refused (position is_late path)
+
+-- a hop with a ciphertext and the keys of a secret
+abbrev pub sealed_by : SuiteMeaning → HopSpec → List ℕ × List ℕ → SealedHop
+sealed_by suite hop made = record {
+  id = hop.id;
+  delay = hop.delay;
+  ciphertext = made.0;
+  keys = suite.hop_keys made.1;
+}
 
 -- a hop with what encapsulation makes, where its key has the suite's length and decodes
 unfoldable pub sealed_hop : SuiteMeaning → HopSpec → List ℕ → Option SealedHop
 sealed_hop suite hop coins =
     if length hop.key == suite.kem.public_key
-    then option_map (λ made. record { id = hop.id; delay = hop.delay; ciphertext = made.0; keys = suite.hop_keys made.1 }) (suite.kem.encapsulate hop.key coins)
+    then option_map (sealed_by suite hop) (suite.kem.encapsulate hop.key coins)
     else None
 
 -- each hop of a path with its own coins; or the first that isn't sealed, counted on from a place
@@ -58,7 +63,7 @@ sealed_path suite place (hop ∷ rest) coins = do
 
 -- secret keys agree with the keys of a path, hop by hop
 abbrev pub AllAgree : KemScheme → List HopSpec → List (List ℕ) → Type 0
-AllAgree kem [] [] = Unit {0}
+AllAgree kem [] [] = ⊤
 AllAgree kem [] (key ∷ keys) = ⊥
 AllAgree kem (hop ∷ path) [] = ⊥
 AllAgree kem (hop ∷ path) (key ∷ keys) = Agrees kem hop.key key × AllAgree kem path keys
@@ -90,13 +95,17 @@ slot_of ciphertext delay exit = ciphertext ++ spell (record { delay = delay; exi
 -- the routing information for the last hop: its slot has zeros for a ciphertext, and the filler ends it
 unfoldable pub routing_of_last : SuiteMeaning → Sizes → Exit → List ℕ → SealedHop → List ℕ
 routing_of_last suite sizes last filler hop =
-    hidden suite hop 0 (slot_of (replicate sizes.ct 0) hop.delay last ++ replicate (routing sizes - slot sizes - length filler) 0) ++ filler
+    hidden suite hop 0
+    (slot_of (replicate sizes.ct 0) hop.delay last ++ replicate (routing sizes - slot sizes - length filler) 0)
+    ++ filler
 
 -- the routing information for another hop: its slot has the next hop's ciphertext, id and MAC, and the front of the next
 -- hop's routing information stands behind it
 unfoldable pub routing_beyond : SuiteMeaning → Sizes → SealedHop → SealedHop → List ℕ → List ℕ
 routing_beyond suite sizes hop next behind =
-    hidden suite hop 0 (slot_of next.ciphertext hop.delay (exits.Hop next.id (header_mac suite next behind)) ++ take (routing sizes - slot sizes) behind)
+    hidden suite hop 0
+    (slot_of next.ciphertext hop.delay (exits.Hop next.id (header_mac suite next behind))
+    ++ take (routing sizes - slot sizes) behind)
 
 -- the routing information for the first of the hops, with the filler of those before it
 unfoldable pub routing_for : SuiteMeaning → Sizes → Exit → List ℕ → List SealedHop → List ℕ
@@ -138,11 +147,19 @@ decrypted_along suite [] payload = payload
 decrypted_along suite (wide ∷ rest) payload = decrypted_along suite rest (suite.decrypt wide payload)
 
 -- a body and a block, if there is one, have the geometry's lengths
-unfoldable pub checked_contents : Sizes → List ℕ → Option (List ℕ) → Result (Unit {0}) MakeFault
+unfoldable pub checked_contents : Sizes → List ℕ → Option (List ℕ) → Result ⊤ MakeFault
 checked_contents sizes body reply_block =
     if length body == sizes.body
     then (if option_map_or (λ bytes. length bytes == block sizes) reply_block true then Ok tt else Err faults.BlockLength)
     else Err faults.BodyLength
+
+-- the refusals of a packet that need no key: of the path's length, of the body's or the block's, and the first delay that
+-- is too long
+unfoldable pub checked_packet : Sizes → List HopSpec → List ℕ → Option (List ℕ) → Result ⊤ MakeFault
+checked_packet sizes path body reply_block = do
+  counted ← checked_count sizes path
+  fitting ← checked_contents sizes body reply_block
+  checked sizes path
 
 -- a packet for a path, to a recipient: the header, and the spelled payload under the wide keys; or the first refusal
 unfoldable pub made_packet : SuiteMeaning → Sizes → List HopSpec → List ℕ → List ℕ → Option (List ℕ) → List ℕ → Result (List ℕ) MakeFault
@@ -151,21 +168,3 @@ made_packet suite sizes path recipient body reply_block coins = do
   fine ← checked_contents sizes body reply_block
   made ← made_header suite sizes path (exits.Recipient recipient) coins
   Ok (made.0 ++ encrypted_along suite made.1 (payloads.spell sizes reply_block body))
-
--- ---- the code's answers
-
--- an answer, seen by view, is a definition's, unless memory ran out
-abbrev pub Fails : {Y : Type 0} → MakeFault → Result Y MakeFault → Type 0
-Fails faults.Memory value = Unit {0}
-Fails faults.PathLength value = value ≡ Err faults.PathLength
-Fails faults.BodyLength value = value ≡ Err faults.BodyLength
-Fails faults.BlockLength value = value ≡ Err faults.BlockLength
-Fails (faults.Delay hop) value = value ≡ Err (faults.Delay hop)
-Fails (faults.KeyForm hop) value = value ≡ Err (faults.KeyForm hop)
-
-abbrev pub GivesAs : {X Y : Type 0} → (X → Y) → Result X MakeFault → Result Y MakeFault → Type 0
-GivesAs view (Ok x) value = value ≡ Ok (view x)
-GivesAs view (Err why) value = Fails why value
-
-abbrev pub Gives : {X : Type 0} → Result X MakeFault → Result X MakeFault → Type 0
-Gives result value = GivesAs (λ x. x) result value

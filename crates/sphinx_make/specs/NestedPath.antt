@@ -25,7 +25,9 @@ pub record Forwards (sizes : Sizes) (hop next : KeyedHop) (packet : List ℕ) (l
 abbrev pub GoesAlong : SuiteMeaning → Sizes → (KeyedHop → Layer → Type 0) → List KeyedHop → List ℕ → Type 0
 GoesAlong suite sizes Finds [] packet = ⊥
 GoesAlong suite sizes Finds (hop ∷ []) packet = IsOkAnd (opened suite sizes hop.secret_key packet) (Finds hop)
-GoesAlong suite sizes Finds (hop ∷ next ∷ rest) packet = (forwarded : List ℕ) × (IsOkAnd (opened suite sizes hop.secret_key packet) (Forwards sizes hop next forwarded) × GoesAlong suite sizes Finds (next ∷ rest) forwarded)
+GoesAlong suite sizes Finds (hop ∷ next ∷ rest) packet =
+    (forwarded : List ℕ) × (IsOkAnd (opened suite sizes hop.secret_key packet) (Forwards sizes hop next forwarded)
+    × GoesAlong suite sizes Finds (next ∷ rest) forwarded)
 
 -- the last hop finds its own delay, these commands and this payload
 pub record Ends (last : Exit) (found : List ℕ) (hop : KeyedHop) (layer : Layer) : Type 0 where

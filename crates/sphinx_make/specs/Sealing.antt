@@ -1,4 +1,4 @@
--- What is known of a hop that was sealed, by the types of its parts.
+-- Words of private functions alone: what is known of a hop that was sealed, by the types of its parts.
 use Rattle.std.specs.Prelude.{◌≡◌, ◌≤◌, ℕ, length, IfSome}
 use Rattle.packet_form.specs.Commands.{longest_delay}
 use Rattle.sphinx_make.specs.declared.path.SealedHop.{SealedHop}

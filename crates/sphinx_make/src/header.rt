@@ -1,15 +1,19 @@
 // Headers: encapsulation to each hop of a path, and routing information from the last hop outwards. What a header is
 // for is a law: whatever payload stands behind it goes along the path.
-ghost use Rattle.std.specs.Prelude.{◌≡◌, ℕ, ◌+◌, ◌*◌, ◌<◌, ◌≤◌, ◌++◌, List, length, All, IfOk, OnOk};
+ghost use Rattle.std.specs.Prelude.{◌≡◌, ◌+◌, ◌*◌, ◌<◌, ◌≤◌, length, All, Err, IfOk, OnOk, IsErrOf};
+ghost use Rattle.mix_base.specs.Results.{GivesAs};
 ghost use Rattle.packet_form.specs.Commands.{HasLengths};
 ghost use Rattle.packet_form.specs.Geometry as lengths;
-ghost use Rattle.sphinx_make.specs.Making.{AllAgree, GivesAs, decrypted_along, header_for, header_of, keyed, made_header, wides_of};
-ghost use Rattle.sphinx_make.specs.NestedPath.{Carries};
+ghost use Rattle.sphinx_make.specs.Carrying.{CarriesEachPayload};
+ghost use Rattle.sphinx_make.specs.Faults.{cause_of};
+ghost use Rattle.sphinx_make.specs.Making.{checked, header_for, header_of, made_header, wides_of};
 ghost use Rattle.sphinx_make.specs.Sealing.{HasKeyLengths, IsOnTime};
+ghost use Rattle.sphinx_make.specs.declared.faults.MakeFault.{MakeFault};
 
+use crate::path::SealedHop;
 use crate::routing::{code_of, route};
 use crate::sealing::{check_path, seal_path};
-use crate::{HopSpec, MakeFault, SealedHop};
+use crate::{HopSpec, MakeFault};
 use mix_base::{Bytes, Suite};
 use packet_form::{Exit, Geometry};
 use std::alloc::{AllocError, Global};
@@ -36,10 +40,14 @@ pub fn make_header<S: Suite>(
     requires coins { length coins.now ≡ length path.now * S.K.COINS }
 
     // The bytes of the definition, or its refusal.
-    ensures exact { GivesAs (λ made. (made.header, made.wides.items)) result (made_header S.meaning geo.now path.now last.now coins.now) }
+    ensures exact { GivesAs cause_of (λ made. (made.header, made.wides.items)) result
+        (made_header S.meaning geo.now path.now last.now coins.now) }
+    // What is refused for the path's length or a delay is refused whether or not there is memory.
+    ensures at_once { (why : MakeFault) → checked geo.now path.now ≡ Err why → IsErrOf result why }
     ensures length { IfOk result (λ made. length made.header ≡ lengths.header geo.now) }
-    // Where secret keys agree with the path's, a payload behind the header is carried along, decrypted by the wide keys.
-    ensures carries { IfOk result (λ made. (keys : List (List ℕ)) (payload : List ℕ) → AllAgree S.meaning.kem path.now keys → length payload ≡ lengths.payload geo.now → Carries S.meaning geo.now (keyed path.now keys) last.now (made.header ++ payload) (decrypted_along S.meaning made.wides.items payload)) }
+    // Where secret keys agree with the path's, a payload behind the header is carried along.
+    ensures carries { IfOk result (λ made.
+        CarriesEachPayload S.meaning geo.now path.now last.now made.header made.wides.items) }
 {
     check_path(geo, path)?;
     let hops = seal_path::<S>(alloc, path, coins)?;
@@ -59,8 +67,10 @@ fn join_header<S: Suite>(
     requires lengths { All (HasKeyLengths S.K.CT) hops.now }
     requires delays { All IsOnTime hops.now }
     requires room { length hops.now ≤ geo.now.hops }
-    ensures value { IfOk result (λ header. header ≡ header_for S.meaning geo.now last.now hops.now) }
-    ensures length { IfOk result (λ header. 0 < length hops.now → length header ≡ lengths.header geo.now) }
+    ensures value { IfOk result (λ header.
+        header ≡ header_for S.meaning geo.now last.now hops.now) }
+    ensures length { IfOk result (λ header.
+        0 < length hops.now → length header ≡ lengths.header geo.now) }
     ensures exit { OnOk result (0 < length hops.now → HasLengths last.now) }
 {
     let Some((first, _)) = hops.split_first() else {
@@ -77,7 +87,8 @@ fn write_header<S: Suite>(
     routing: &[u8],
 ) -> Result<Bytes, AllocError>
     ensures value { IfOk result (λ header. header ≡ header_of S.meaning hop.now routing.now) }
-    ensures length { IfOk result (λ header. length header ≡ 2 + length hop.now.ciphertext + length routing.now + 32) }
+    ensures length { IfOk result (λ header.
+        length header ≡ 2 + length hop.now.ciphertext + length routing.now + 32) }
 {
     let mac = code_of::<S>(alloc, hop, routing)?;
     let mut header = Vec::new(alloc);

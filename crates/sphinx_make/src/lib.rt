@@ -2,7 +2,7 @@
 #![tactic(auto)]
 
 mod drawing;
-mod fault;
+mod faults;
 mod header;
 mod packet;
 mod path;
@@ -13,8 +13,8 @@ mod sealing;
 mod tests;
 
 pub use drawing::{Draw, draw_delay};
-pub use fault::MakeFault;
+pub use faults::MakeFault;
 pub use header::{MadeHeader, make_header};
 pub use packet::make_packet;
-pub use path::{HopSpec, SealedHop};
+pub use path::HopSpec;
 pub use payload::{encrypt_along, spell_payload};

@@ -8,11 +8,11 @@ pub struct HopSpec {
     pub id: [u8; 32],
     /// Its public key.
     pub key: Bytes,
-    /// For how many milliseconds it is to hold the packet, at most 10,800,000.
+    /// For how many milliseconds it is to hold the packet, at most `packet_form::LONGEST_DELAY`.
     pub delay: Option<u32>,
 }
 
-/// A hop of a path, with the ciphertext that was made for it and the keys of its secret.
+// A hop of a path, with the ciphertext that was made for it and the keys of its secret.
 #[derive(Drop)]
 pub struct SealedHop {
     pub id: [u8; 32],

@@ -17,8 +17,11 @@ pub fn spell_payload(
     body: &[u8],
     block: Option<&[u8]>,
 ) -> Result<Vec<u8>, AllocError>
-    ensures value { IfOk result (λ payload. payload.items ≡ spell geo.now (option_copied block.entry) body.now) }
-    ensures length { IfOk result (λ payload. length body.now ≡ geo.now.body → HasRoom geo.now (option_copied block.entry) → length payload.items ≡ lengths.payload geo.now) }
+    ensures value { IfOk result (λ payload.
+        payload.items ≡ spell geo.now (option_copied block.entry) body.now) }
+    ensures length { IfOk result (λ payload.
+        length body.now ≡ geo.now.body → HasRoom geo.now (option_copied block.entry) →
+        length payload.items ≡ lengths.payload geo.now) }
 {
     let mut payload = Vec::with_capacity(alloc, geo.payload())?;
     payload.resize(32, 0)?;
@@ -30,7 +33,8 @@ pub fn spell_payload(
 // Writes the flag, a zero and the room of a block behind the zeros of a payload.
 fn add_block(payload: &mut Vec<u8>, geo: &Geometry, block: Option<&[u8]>) -> Result<(), AllocError>
     requires { length payload.old.items ≡ 32 }
-    ensures { OnOk result (payload.new.items ≡ payload.old.items ++ spelled_block geo.now (option_copied block.entry)) }
+    ensures { OnOk result (payload.new.items ≡
+        payload.old.items ++ spelled_block geo.now (option_copied block.entry)) }
 {
     match block {
         Some(bytes) => {

@@ -6,7 +6,7 @@ ghost use Rattle.packet_form.specs.Geometry as lengths;
 ghost use Rattle.sphinx_make.specs.Making.{header_mac, hidden, next_filler, routing_beyond, routing_for, routing_of_last};
 ghost use Rattle.sphinx_make.specs.Sealing.{HasKeyLengths, IsOnTime};
 
-use crate::SealedHop;
+use crate::path::SealedHop;
 use mix_base::{Mac, Stream, Suite};
 use packet_form::{Cmds, Exit, Geometry, write_cmds};
 use std::alloc::{AllocError, Global};
@@ -19,8 +19,11 @@ fn hide_filler<S: Suite>(
     filler: &[u8],
 ) -> Result<Vec<u8>, AllocError>
     requires { length filler.now ≤ lengths.routing geo.now }
-    ensures value { IfOk result (λ made. made.items ≡ hidden S.meaning hop.now 0 (replicate (lengths.routing geo.now - length filler.now) 0 ++ filler.now ++ replicate (lengths.slot geo.now) 0)) }
-    ensures length { IfOk result (λ made. length made.items ≡ lengths.routing geo.now + lengths.slot geo.now) }
+    ensures value { IfOk result (λ made. made.items ≡ hidden S.meaning hop.now 0
+        (replicate (lengths.routing geo.now - length filler.now) 0
+        ++ filler.now ++ replicate (lengths.slot geo.now) 0)) }
+    ensures length { IfOk result (λ made.
+        length made.items ≡ lengths.routing geo.now + lengths.slot geo.now) }
 {
     let whole = geo.routing() + geo.slot();
     let mut bytes = Vec::with_capacity(alloc, whole)?;
@@ -39,7 +42,8 @@ fn pass_filler<S: Suite>(
     filler: &[u8],
 ) -> Result<Vec<u8>, AllocError>
     requires { length filler.now ≤ lengths.routing geo.now }
-    ensures { IfOk result (λ passed. passed.items ≡ next_filler S.meaning geo.now hop.now filler.now) }
+    ensures { IfOk result (λ passed.
+        passed.items ≡ next_filler S.meaning geo.now hop.now filler.now) }
 {
     let bytes = hide_filler::<S>(alloc, geo, hop, filler)?;
     let (_, passed) = bytes.split_at(geo.routing() - filler.len());
@@ -73,7 +77,8 @@ fn end_routing<S: Suite>(
 ) -> Result<Vec<u8>, AllocError>
     requires room { length filler.now + lengths.slot geo.now ≤ lengths.routing geo.now }
     requires delay { IsOnTime hop.now }
-    ensures value { IfOk result (λ made. made.items ≡ routing_of_last S.meaning geo.now last.now filler.now hop.now) }
+    ensures value { IfOk result (λ made.
+        made.items ≡ routing_of_last S.meaning geo.now last.now filler.now hop.now) }
     ensures length { IfOk result (λ made. length made.items ≡ lengths.routing geo.now) }
     ensures exit { OnOk result (HasLengths last.now) }
 {
@@ -103,7 +108,8 @@ fn outer_routing<S: Suite>(
     requires behind { length behind.now ≡ lengths.routing geo.now }
     requires room { lengths.slot geo.now ≤ lengths.routing geo.now }
     requires delay { IsOnTime hop.now }
-    ensures value { IfOk result (λ made. made.items ≡ routing_beyond S.meaning geo.now hop.now next.now behind.now) }
+    ensures value { IfOk result (λ made.
+        made.items ≡ routing_beyond S.meaning geo.now hop.now next.now behind.now) }
     ensures length { IfOk result (λ made. length made.items ≡ lengths.routing geo.now) }
 {
     let cmds = Cmds {
@@ -133,9 +139,12 @@ pub fn route<S: Suite>(
     requires ciphertext { geo.now.ct ≡ S.K.CT }
     requires lengths { All (HasKeyLengths S.K.CT) hops.now }
     requires delays { All IsOnTime hops.now }
-    requires room { length filler.now + length hops.now * lengths.slot geo.now ≤ lengths.routing geo.now }
-    ensures value { IfOk result (λ made. made.items ≡ routing_for S.meaning geo.now last.now filler.now hops.now) }
-    ensures length { IfOk result (λ made. 0 < length hops.now → length made.items ≡ lengths.routing geo.now) }
+    requires room { length filler.now + length hops.now * lengths.slot geo.now
+        ≤ lengths.routing geo.now }
+    ensures value { IfOk result (λ made.
+        made.items ≡ routing_for S.meaning geo.now last.now filler.now hops.now) }
+    ensures length { IfOk result (λ made.
+        0 < length hops.now → length made.items ≡ lengths.routing geo.now) }
     ensures exit { OnOk result (0 < length hops.now → HasLengths last.now) }
 {
     let Some((hop, rest)) = hops.split_first() else {

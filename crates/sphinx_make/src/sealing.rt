@@ -1,11 +1,14 @@
 // Encapsulation to the hops of a path: to each with its own coins, in path order.
 ghost use Rattle.std.specs.Prelude.{◌≡◌, ◌*◌, length, position, All, IfOk};
 ghost use Rattle.std.specs.Option.{ok_or};
-ghost use Rattle.sphinx_make.specs.Making.{Gives, GivesAs, checked, checked_count, is_late, sealed_hop, sealed_path};
+ghost use Rattle.mix_base.specs.Results.{Gives, GivesAs};
+ghost use Rattle.sphinx_make.specs.Faults.{cause_of};
+ghost use Rattle.sphinx_make.specs.Making.{checked, checked_count, is_late, sealed_hop, sealed_path};
 ghost use Rattle.sphinx_make.specs.Sealing.{HasKeyLengths};
-ghost use Rattle.sphinx_make.specs.declared.fault.MakeFault.TheVariants.{KeyForm};
+ghost use Rattle.sphinx_make.specs.declared.faults.MakeFault.TheVariants.{KeyForm};
 
-use crate::{HopSpec, MakeFault, SealedHop};
+use crate::path::SealedHop;
+use crate::{HopSpec, MakeFault};
 use mix_base::{Bytes, EncapFault, Kdf, Kem, Suite};
 use packet_form::{Geometry, LONGEST_DELAY};
 use std::alloc::Global;
@@ -59,7 +62,8 @@ fn seal_hop<S: Suite>(
     coins: &[u32],
 ) -> Result<SealedHop, MakeFault>
     requires { length coins.now ≡ S.K.COINS }
-    ensures exact { Gives result (ok_or (sealed_hop S.meaning hop.now coins.now) (KeyForm place)) }
+    ensures exact { Gives cause_of result
+        (ok_or (sealed_hop S.meaning hop.now coins.now) (KeyForm place)) }
     ensures lengths { IfOk result (HasKeyLengths S.K.CT) }
 {
     if hop.key.as_slice().len() != S::K::PK {
@@ -93,7 +97,8 @@ pub fn seal_path<S: Suite>(
     coins: &[u32],
 ) -> Result<Vec<SealedHop>, MakeFault>
     requires { length coins.now ≡ length path.now * S.K.COINS }
-    ensures exact { GivesAs (λ sealed. sealed.items) result (sealed_path S.meaning 0 path.now coins.now) }
+    ensures exact { GivesAs cause_of (λ sealed. sealed.items) result
+        (sealed_path S.meaning 0 path.now coins.now) }
     ensures lengths { IfOk result (λ sealed. All (HasKeyLengths S.K.CT) sealed.items) }
 {
     let mut sealed = Vec::with_capacity(alloc, path.len())?;

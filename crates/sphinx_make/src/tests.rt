@@ -1,13 +1,18 @@
 // A packet against another program's and unwrapped hop after hop, the refusals in their order, and drawn delays against
 // counts made by hand.
+ghost use Rattle.std.specs.Prelude.{◌≡◌, vec_len, IfOk};
+
+mod unreadable;
+
 use crate::{Draw, HopSpec, MakeFault, draw_delay, make_header, make_packet};
-use mix_base::{Bytes, ListWords, Words};
+use mix_base::{Bytes, ListWords, Memory, Words, next_words};
 use packet_form::{Exit, Geometry};
 use prim_std::{ChaWords, LabSuite, hmac_sha256, sha256};
 use sphinx_unwrap::{Opened, Out, unwrap};
 use std::alloc::{AllocError, Global};
 use std::process::Abort;
 use std::test::Fail;
+use unreadable::UnreadableKeys;
 
 // The key of each hop, public and secret, and the id of each.
 const KEY: [u8; 32] = [
@@ -46,13 +51,10 @@ fn drawn_path(alloc: Global, seed: &[u8; 32]) -> Result<Vec<HopSpec>, AllocError
 }
 
 // So many words of a seed's key stream.
-fn coins(alloc: Global, seed: &[u8; 32], count: usize) -> Result<Vec<u32>, AllocError> {
-    let mut words = ChaWords::new(seed);
-    let mut coins = Vec::new(alloc);
-    for _ in 0..count {
-        coins.push(words.next())?;
-    }
-    Ok(coins)
+fn coins(alloc: Global, seed: &[u8; 32], count: usize) -> Result<Vec<u32>, Memory>
+    ensures { IfOk result (λ coins. vec_len coins ≡ count) }
+{
+    next_words(alloc, &mut ChaWords::new(seed), count)
 }
 
 // A hop opens the packet, and finds its own delay.
@@ -136,7 +138,7 @@ fn packet_of_five_hops(rt: HostRuntime) -> Result<(), Fail> {
     let seed = [0x01; 32];
     let path = drawn_path(alloc, &seed)?;
     let coins = coins(alloc, &seed, 40)?;
-    assert_eq!(rt; (path.len(), coins.len()), (5, 40));
+    assert_eq!(rt; path.len(), 5);
     let body = [0x41; 64];
     let packet = make_packet::<LabSuite>(alloc, &geo, &path, &RECIPIENT, &body, None, &coins)?;
     assert_eq!(rt;
@@ -197,10 +199,8 @@ fn first_cause_refuses(rt: HostRuntime) -> Result<(), Fail> {
             let key_length = if place == short { 31 } else { 32 };
             path.push(hop(alloc, key_length, Some(delay))?)?;
         }
-        let words = coins(alloc, &ID, 48)?;
-        assert_eq!(rt; words.len(), 48);
         assert!(rt; path.len() <= 6);
-        let coins = &words[..8 * path.len()];
+        let coins = coins(alloc, &ID, 8 * path.len())?;
         let body = vec![in alloc; 0; body]?;
         let block = vec![in alloc; 0; block.unwrap_or(0)]?;
         let given = if block.is_empty() {
@@ -208,9 +208,14 @@ fn first_cause_refuses(rt: HostRuntime) -> Result<(), Fail> {
         } else {
             Some(block.as_slice())
         };
-        let made = make_packet::<LabSuite>(alloc, &geo, &path, &RECIPIENT, &body, given, coins);
+        let made = make_packet::<LabSuite>(alloc, &geo, &path, &RECIPIENT, &body, given, &coins);
         assert_eq!(rt; made.err(), Some(want));
     }
+    // a key of the right length that doesn't decode
+    let path = [hop(alloc, 32, None)?, hop(alloc, 32, None)?];
+    let last = Exit::Recipient { id: RECIPIENT };
+    let made = make_header::<UnreadableKeys>(alloc, &geo, &path, &last, &[]);
+    assert_eq!(rt; made.err(), Some(MakeFault::KeyForm { hop: 0 }));
     Ok(())
 }
 
@@ -229,9 +234,6 @@ fn delays_are_drawn_up_to_the_cap(rt: HostRuntime) -> Result<(), Fail> {
         (0xffff_ffff, 1, 1, 0, 0xffff_ffff),
     ];
     for (threshold, unit, cap, delay, left) in rows {
-        if unit == 0 || cap > 10_800_000 {
-            return Err(Fail::from("outside of what is asked"));
-        }
         let list = vec![in rt.alloc(); 0x8000_0000, 0xffff_ffff, 0x7fff_ffff]?;
         if list.is_empty() {
             return Err(Fail::from("no words"));
@@ -242,6 +244,9 @@ fn delays_are_drawn_up_to_the_cap(rt: HostRuntime) -> Result<(), Fail> {
             unit,
             cap,
         };
+        if !draw.is_allowed() {
+            return Err(Fail::from("outside of what is asked"));
+        }
         assert_eq!(rt; draw_delay(&mut words, &draw), delay);
         assert_eq!(rt; words.next(), left);
     }

@@ -1,40 +1,31 @@
 -- What goes out of a layer, in other words: by its exit, and the parts of a forwarded packet by their places.
-use Rattle.std.proofs.Common.{◌≡◌, ℕ, ◌+◌, ◌-◌, List, ◌∷◌, ◌++◌, length, take, drop, Option, Some, None, IsSomeAnd, refl, sym, ap, ◌∙◌, subst, arith, append_assoc, length-append}
-use Rattle.std.proofs.lemmas.List.{length-take-le, length-drop, take_at, drop_at}
+use Rattle.std.proofs.Common.{◌≡◌, ℕ, ◌+◌, ◌-◌, List, length, take, drop, Option, Some, None, IsSomeAnd, refl, sym, ap, ◌∙◌, subst, arith}
+use Rattle.std.proofs.lemmas.List.{length-take-le, length-drop}
 use Rattle.mix_base.specs.declared.suites.HopKeys.{HopKeys}
 use Rattle.packet_form.specs.Commands.{HasLengths}
-use Rattle.packet_form.specs.Geometry.{Sizes, slot, routing, header, block}
+use Rattle.packet_form.specs.Geometry.{Sizes, slot, routing}
 use Rattle.packet_form.specs.Geometry as lengths
 use Rattle.packet_form.specs.declared.commands.Cmds.{Cmds}
 use Rattle.packet_form.specs.declared.commands.Exit.{Exit}
 use Rattle.packet_form.specs.declared.commands.Exit.TheVariants as exits
 use Rattle.sphinx_unwrap.specs.Layer.{Layer}
-use Rattle.sphinx_unwrap.specs.Outcome.{IsForwarded, Leaves, Says, out_by}
+use Rattle.sphinx_unwrap.specs.Outcome.{IsForwarded, Leaves, Says, out_by, packet_of}
 use Rattle.sphinx_unwrap.specs.Payload.{read_block}
 use Rattle.sphinx_unwrap.specs.declared.outcome.Opened.{Opened}
+use Rattle.sphinx_unwrap.proofs.Parts.{has_parts}
 use Rattle.sphinx_unwrap.proofs.Spelling.{received_spells}
 
--- the part between two places
-part_at : (before part behind : List ℕ) (from end : ℕ) → length before ≡ from → length before + length part ≡ end → take (end - from) (drop from (before ++ (part ++ behind))) ≡ part
-part_at before part behind from end start stop =
-    rw (drop_at before (part ++ behind) from start) (take_at part behind (end - from) (omega arith))
-
--- the packet of a ciphertext, routing information, a MAC and a payload has them at their places
-has_parts : (sizes : Sizes) (slots mac payload ct ri : List ℕ) → ct ≡ take (sizes.ct - 0) slots → ri ≡ drop (slot sizes) slots → length ct ≡ sizes.ct → length ri ≡ routing sizes → length mac ≡ 32 → length payload ≡ lengths.payload sizes → IsForwarded sizes slots mac payload (0 ∷ 0 ∷ ct ++ ri ++ mac ++ payload)
-has_parts sizes slots mac payload ct ri is_ct is_ri ct_long ri_long mac_long payload_long =
-    let front : List ℕ = 0 ∷ 0 ∷ ct in
-    let third : front ++ ri ++ mac ++ payload ≡ front ++ (ri ++ (mac ++ payload)) = append_assoc (front ++ ri) mac payload ∙ append_assoc front ri (mac ++ payload) in
-    let fourth : front ++ ri ++ mac ++ payload ≡ front ++ ri ++ (mac ++ payload) = append_assoc (front ++ ri) mac payload in
-    let second : ct ++ ri ++ mac ++ payload ≡ ct ++ (ri ++ (mac ++ payload)) = append_assoc (ct ++ ri) mac payload ∙ append_assoc ct ri (mac ++ payload) in
-    let to_mac : length (front ++ ri) ≡ header sizes - 32 = omega (arith, length-append front ri) in
-    let to_payload : length (front ++ ri ++ mac) ≡ header sizes = omega (arith, length-append (front ++ ri) mac) in
+-- a forwarded packet by its places
+is_forwarded : (sizes : Sizes) (slots mac payload ct ri : List ℕ) → ct ≡ take (sizes.ct - 0) slots → ri ≡ drop (slot sizes) slots → length ct ≡ sizes.ct → length ri ≡ routing sizes → length mac ≡ 32 → length payload ≡ lengths.payload sizes → IsForwarded sizes slots mac payload (packet_of ct ri mac payload)
+is_forwarded sizes slots mac payload ct ri is_ct is_ri ct_long ri_long mac_long payload_long =
+    let parts = has_parts sizes ct ri mac payload ct_long ri_long mac_long payload_long in
     record {
-      whole = omega (arith, length-append (front ++ ri ++ mac) payload);
-      version = refl;
-      ciphertext = ap (take (2 + sizes.ct - 2)) second ∙ take_at ct (ri ++ (mac ++ payload)) (2 + sizes.ct - 2) (omega arith) ∙ is_ct;
-      routing = ap (λ xs. take (header sizes - 32 - (2 + sizes.ct)) (drop (2 + sizes.ct) xs)) third ∙ part_at front ri (mac ++ payload) (2 + sizes.ct) (header sizes - 32) (omega arith) (omega arith) ∙ is_ri;
-      true_mac = ap (λ xs. take (header sizes - (header sizes - 32)) (drop (header sizes - 32) xs)) fourth ∙ part_at (front ++ ri) mac payload (header sizes - 32) (header sizes) to_mac (omega arith);
-      behind = drop_at (front ++ ri ++ mac) payload (header sizes) to_payload;
+      whole = parts.whole;
+      version = parts.version;
+      ciphertext = parts.ciphertext ∙ is_ct;
+      routing = parts.routing_bytes ∙ is_ri;
+      true_mac = parts.code;
+      behind = parts.behind;
     }
 
 -- each exit has its outcome
@@ -42,7 +33,7 @@ pub leaves : (sizes : Sizes) (layer : Layer) (slots : List ℕ) (exit : Exit) �
 leaves sizes layer slots (exits.Hop id mac) is_ct is_ri h slots_long payload_long =
     let ct_long : length layer.next_ciphertext ≡ sizes.ct = ap length is_ct ∙ length-take-le (sizes.ct - 0) slots (omega arith) ∙ omega arith in
     let ri_long : length layer.next_routing ≡ routing sizes = ap length is_ri ∙ length-drop (slot sizes) slots ∙ omega arith in
-    (refl, has_parts sizes slots mac layer.payload layer.next_ciphertext layer.next_routing is_ct is_ri ct_long ri_long h.1 payload_long)
+    (refl, is_forwarded sizes slots mac layer.payload layer.next_ciphertext layer.next_routing is_ct is_ri ct_long ri_long h.1 payload_long)
 leaves sizes layer slots (exits.Recipient id) is_ct is_ri h slots_long payload_long =
     received_spells sizes slots layer.payload id (read_block sizes layer.payload) (omega arith) refl
 leaves sizes layer slots (exits.Reply id surb) is_ct is_ri h slots_long payload_long = (refl, refl, refl)

@@ -3,8 +3,8 @@ use Rattle.std.proofs.Common.{◌≡◌, ℕ, ◌+◌, ◌-◌, ◌≤◌, List,
 use Rattle.std.proofs.Math.Seq.{drop-cons}
 use Rattle.std.proofs.lemmas.List.{length-replicate, length-take-le, take-append-drop, drop-drop, take_at, drop_at}
 use Rattle.packet_form.specs.Geometry.{Sizes, block}
-use Rattle.packet_form.specs.CommandLaws.{all_zero-replicate, both, zeros_from_all_zero}
-use Rattle.packet_form.specs.Commands.{all_zero}
+use Rattle.mix_base.specs.ByteLists.{all_zero}
+use Rattle.packet_form.proofs.CommandLaws.{all_zero-replicate, both, zeros_from_all_zero}
 use Rattle.packet_form.specs.declared.commands.Exit.TheVariants as exits
 use Rattle.sphinx_unwrap.specs.Outcome.{received, Leaves}
 use Rattle.sphinx_unwrap.specs.Payload.{spelled_block, spell, HasRoom, block_in, read_block, body_of}

@@ -1,24 +1,19 @@
 -- One layer of a packet, taken off with a hop's secret key: a function on whole lists. A packet is a version of
 -- two bytes, a ciphertext, the routing information, a MAC and a payload.
-use Rattle.std.specs.Prelude.{ℕ, ◌+◌, ◌-◌, ◌==◌, List, [], ◌∷◌, ◌++◌, length, drop, replicate, slice_range, Bool, Option, Some, None, Result, Ok, Err, if◌then◌else◌}
+use Rattle.std.specs.Prelude.{◌≡◌, ◌≢◌, ⊤, ℕ, ◌+◌, ◌-◌, ◌==◌, List, [], ◌∷◌, ◌++◌, length, drop, replicate, slice_range, Bool, Option, Some, None, Result, Ok, Err, if◌then◌else◌}
 use Rattle.std.specs.Option.{option_and_then, option_map, ok_or}
 use Rattle.std.specs.Str.{bytes_eq}
 use Rattle.sha2.specs.Sha256.{sha256}
 use Rattle.mix_base.specs.ByteLists.{xor_stream}
+use Rattle.mix_base.specs.Results.{◌>>=◌}
 use Rattle.mix_base.specs.Suites.{SuiteMeaning}
 use Rattle.mix_base.specs.declared.suites.HopKeys.{HopKeys}
 use Rattle.packet_form.specs.Commands.{read}
 use Rattle.packet_form.specs.Geometry.{Sizes, slot, routing, header}
 use Rattle.packet_form.specs.Geometry as lengths
 use Rattle.packet_form.specs.declared.commands.Cmds.{Cmds}
-use Rattle.sphinx_unwrap.specs.declared.fault.Refused.{Refused}
-use Rattle.sphinx_unwrap.specs.declared.fault.Refused.TheVariants.{Length, Version, Sealed, Commands}
-
--- one step after the other: the first refusal decides
-infixl 10 ◌>>=◌
-abbrev pub ◌>>=◌ : {A B : Type 0} → Result A Refused → (A → Result B Refused) → Result B Refused
-(Ok x) >>= next = next x
-(Err why) >>= next = Err why
+use Rattle.sphinx_unwrap.specs.declared.faults.Refused.{Refused}
+use Rattle.sphinx_unwrap.specs.declared.faults.Refused.TheVariants.{Length, Version, Sealed, Commands}
 
 -- the ciphertext, behind the version
 abbrev pub ciphertext_of : Sizes → List ℕ → List ℕ
@@ -45,11 +40,19 @@ abbrev pub tag_of : Sizes → List ℕ → List ℕ
 tag_of sizes packet = sha256 (ciphertext_of sizes packet)
 
 -- a packet has the length of the geometry, and version 0
-unfoldable pub shape : Sizes → List ℕ → Result (Unit {0}) Refused
+unfoldable pub shape : Sizes → List ℕ → Result ⊤ Refused
 shape sizes packet =
     if length packet == lengths.packet sizes
     then (if bytes_eq (slice_range packet 0 2) (0 ∷ 0 ∷ []) then Ok tt else Err Version)
     else Err Length
+
+-- the same in other words: another length than the geometry's
+abbrev pub HasOtherLength : Sizes → List ℕ → Type 0
+HasOtherLength sizes packet = length packet ≢ lengths.packet sizes
+
+-- the geometry's length, and another version than 0
+abbrev pub HasOtherVersion : Sizes → List ℕ → Type 0
+HasOtherVersion sizes packet = (length packet ≡ lengths.packet sizes) × (slice_range packet 0 2 ≢ 0 ∷ 0 ∷ [])
 
 -- the hop's keys, where the ciphertext decapsulates
 unfoldable pub hop_keys_of : SuiteMeaning → Sizes → List ℕ → List ℕ → Option HopKeys
@@ -63,6 +66,10 @@ is_authentic suite sizes packet keys = bytes_eq (suite.mac keys.mac (authenticat
 unfoldable pub unsealed : SuiteMeaning → Sizes → List ℕ → List ℕ → Option HopKeys
 unsealed suite sizes sk packet =
     option_and_then (λ keys. if is_authentic suite sizes packet keys then Some keys else None) (hop_keys_of suite sizes sk packet)
+
+-- the secret key doesn't open the packet, whose length and version are right
+abbrev pub IsSealedTo : SuiteMeaning → Sizes → List ℕ → List ℕ → Type 0
+IsSealedTo suite sizes sk packet = (shape sizes packet ≡ Ok tt) × (unsealed suite sizes sk packet ≡ None)
 
 -- the routing information with a slot of zeros behind it, under the hop's stream: this hop's slot, and behind it
 -- the next hop's routing information

@@ -1,24 +1,26 @@
--- What goes out of a layer, and what unwrapping answers.
-use Rattle.std.specs.Prelude.{◌≡◌, ◌≢◌, ℕ, List, [], ◌∷◌, ◌++◌, length, drop, slice_range, Option, Some, None, IsSomeAnd, Result, Ok, Err}
+-- What goes out of a layer, and what unwrapping gives.
+use Rattle.std.specs.Prelude.{◌≡◌, ◌≢◌, ℕ, List, [], ◌∷◌, ◌++◌, length, drop, slice_range, Option, Some, None, IsSomeAnd, Result, Ok}
+use Rattle.mix_base.specs.Results.{◌>>=◌}
 use Rattle.mix_base.specs.Suites.{SuiteMeaning}
 use Rattle.packet_form.specs.Commands.{read}
 use Rattle.packet_form.specs.Geometry.{Sizes, slot}
 use Rattle.packet_form.specs.Geometry as lengths
 use Rattle.packet_form.specs.declared.commands.Exit.{Exit}
 use Rattle.packet_form.specs.declared.commands.Exit.TheVariants as exits
-use Rattle.sphinx_unwrap.specs.Layer.{Layer, opened, ciphertext_of, commands_of, mac_of, payload_of, routing_of, ◌>>=◌}
+use Rattle.sphinx_unwrap.specs.Layer.{Layer, opened, ciphertext_of, commands_of, mac_of, payload_of, payload_under, routing_of, unhidden, unsealed}
 use Rattle.sphinx_unwrap.specs.Payload.{spell, HasRoom, read_block, body_of}
-use Rattle.sphinx_unwrap.specs.declared.fault.Refused.{Refused}
-use Rattle.sphinx_unwrap.specs.declared.fault.UnwrapFault.{UnwrapFault}
-use Rattle.sphinx_unwrap.specs.declared.fault.UnwrapFault.TheVariants as faults
-use Rattle.sphinx_unwrap.specs.declared.layer.OpenLayer.{OpenLayer}
+use Rattle.sphinx_unwrap.specs.declared.faults.Refused.{Refused}
 use Rattle.sphinx_unwrap.specs.declared.outcome.Opened.{Opened}
 use Rattle.sphinx_unwrap.specs.declared.outcome.Out.{Out}
 use Rattle.sphinx_unwrap.specs.declared.outcome.Out.TheVariants as outs
 
--- to the next hop: version 0, the next ciphertext and routing information, the MAC of the commands, and the payload
+-- the packet of these parts: version 0, a ciphertext, routing information, a MAC and a payload
+abbrev pub packet_of : List ℕ → List ℕ → List ℕ → List ℕ → List ℕ
+packet_of ciphertext routing_bytes mac payload = 0 ∷ 0 ∷ ciphertext ++ routing_bytes ++ mac ++ payload
+
+-- to the next hop: the next ciphertext and routing information, the MAC of the commands, and the payload
 abbrev pub forwarded : Layer → List ℕ → List ℕ
-forwarded layer mac = 0 ∷ 0 ∷ layer.next_ciphertext ++ layer.next_routing ++ mac ++ layer.payload
+forwarded layer mac = packet_of layer.next_ciphertext layer.next_routing mac layer.payload
 
 -- to a recipient: the body with its block, where the payload before the body is right
 abbrev pub received : List ℕ → List ℕ → Option (Option (List ℕ)) → Out
@@ -52,37 +54,32 @@ pub record IsForwarded (sizes : Sizes) (slots mac payload packet : List ℕ) : T
   pub true_mac : mac_of sizes packet ≡ mac
   pub behind : payload_of sizes packet ≡ payload
 
+-- the payload spells no body, with or without a block
+abbrev pub SpellsNothing : Sizes → List ℕ → Type 0
+SpellsNothing sizes payload =
+    (reply_block : Option (List ℕ)) (body : List ℕ) → HasRoom sizes reply_block → payload ≢ spell sizes reply_block body
+
 -- each exit has its outcome: the next hop gets a packet of those parts, a recipient what the payload spells, or
 -- Damaged where it spells nothing, and the maker of a reply block the payload as it is
 abbrev pub Leaves : Sizes → List ℕ → List ℕ → Exit → Out → Type 0
-Leaves sizes slots payload (exits.Hop id mac) (outs.Forward next packet) = (next ≡ id) × IsForwarded sizes slots mac payload packet
-Leaves sizes slots payload (exits.Recipient id) (outs.Deliver recipient body reply_block) = (recipient ≡ id) × (payload ≡ spell sizes reply_block body)
-Leaves sizes slots payload (exits.Recipient id) (outs.Damaged recipient) = (recipient ≡ id) × ((reply_block : Option (List ℕ)) (body : List ℕ) → HasRoom sizes reply_block → payload ≢ spell sizes reply_block body)
-Leaves sizes slots payload (exits.Reply id surb) (outs.Reply recipient reply_id whole) = (recipient ≡ id) × (reply_id ≡ surb) × (whole ≡ payload)
+Leaves sizes slots payload (exits.Hop id mac) (outs.Forward next packet) =
+    (next ≡ id) × IsForwarded sizes slots mac payload packet
+Leaves sizes slots payload (exits.Recipient id) (outs.Deliver recipient body reply_block) =
+    (recipient ≡ id) × (payload ≡ spell sizes reply_block body)
+Leaves sizes slots payload (exits.Recipient id) (outs.Damaged recipient) =
+    (recipient ≡ id) × SpellsNothing sizes payload
+Leaves sizes slots payload (exits.Reply id surb) (outs.Reply recipient reply_id whole) =
+    (recipient ≡ id) × (reply_id ≡ surb) × (whole ≡ payload)
 Leaves sizes slots payload _ _ = ⊥
 
 -- the slot has commands; the delay is theirs, and what goes out leaves by their exit
 abbrev pub Says : Sizes → List ℕ → List ℕ → Opened → Type 0
-Says sizes slots payload opened = IsSomeAnd (read (commands_of sizes slots)) (λ commands. (opened.delay ≡ commands.delay) × Leaves sizes slots payload commands.exit opened.out)
+Says sizes slots payload opened =
+    IsSomeAnd (read (commands_of sizes slots))
+    (λ commands. (opened.delay ≡ commands.delay) × Leaves sizes slots payload commands.exit opened.out)
 
--- ---- the code's answers
-
--- a layer, without where its buffers lie
-abbrev pub layer_seen : Sizes → OpenLayer → Layer
-layer_seen sizes layer = record {
-  tag = layer.tag;
-  commands = layer.commands;
-  next_ciphertext = slice_range layer.slots.items 0 sizes.ct;
-  next_routing = drop (slot sizes) layer.slots.items;
-  payload = layer.payload.items;
-}
-
--- an answer, seen by view, is a definition's, unless memory ran out
-abbrev pub GivesAs : {X Y : Type 0} → (X → Y) → Result X UnwrapFault → Result Y Refused → Type 0
-GivesAs view (Ok x) value = value ≡ Ok (view x)
-GivesAs view (Err faults.Memory) value = Unit {0}
-GivesAs view (Err (faults.Refused why)) value = value ≡ Err why
-
--- an answer is a definition's, unless memory ran out
-abbrev pub Gives : {X : Type 0} → Result X UnwrapFault → Result X Refused → Type 0
-Gives result value = GivesAs (λ x. x) result value
+-- the secret key opens the packet, and what is opened is what slots and payload under the hop's keys say
+abbrev pub SaysUnder : SuiteMeaning → Sizes → List ℕ → List ℕ → Opened → Type 0
+SaysUnder suite sizes sk packet opened =
+    IsSomeAnd (unsealed suite sizes sk packet)
+    (λ keys. Says sizes (unhidden suite sizes keys packet) (payload_under suite sizes packet keys) opened)

@@ -1,7 +1,7 @@
 -- The payload as a recipient gets it: 32 zeros, a flag, a zero, the room of a block, and the body. The flag is 1
 -- where the room holds a block, and 0 where it holds zeros.
 use Rattle.std.specs.Prelude.{◌≡◌, ℕ, ◌+◌, ◌==◌, List, ◌∷◌, ◌++◌, length, drop, replicate, slice_index, slice_range, ◌&&◌, Option, Some, None, IfSome, if◌then◌else◌}
-use Rattle.packet_form.specs.Commands.{all_zero}
+use Rattle.mix_base.specs.ByteLists.{all_zero}
 use Rattle.packet_form.specs.Geometry.{Sizes, block}
 
 -- the flag, a zero and the room of a block

@@ -1,15 +1,17 @@
 // Taking off one layer, step by step: shape, keys, routing information, commands, payload. Each step is the
 // definition of its name in specs/Layer, so the refusals come in the definition's order.
-ghost use Rattle.std.specs.Prelude.{◌≡◌, ◌+◌, length, Some, OnOk, IfOk, IsSomeAnd};
+ghost use Rattle.std.specs.Prelude.{◌≡◌, ◌+◌, ◌↔◌, length, Some, OnOk, IfOk, IsOk, IsErrOf, IsTrue, IsSomeAnd};
 ghost use Rattle.std.specs.Option.{ok_or};
+ghost use Rattle.mix_base.specs.Results.{GivesAs};
 ghost use Rattle.packet_form.specs.Commands.{read};
 ghost use Rattle.packet_form.specs.Geometry as lengths;
-ghost use Rattle.sphinx_unwrap.specs.Layer.{ciphertext_of, commands_of, hop_keys_of, is_authentic, opened, payload_under, shape, tag_of, unhidden, unsealed};
-ghost use Rattle.sphinx_unwrap.specs.Outcome.{Gives, GivesAs, layer_seen};
-ghost use Rattle.sphinx_unwrap.specs.declared.fault.Refused.TheVariants.{Commands, Sealed};
+ghost use Rattle.sphinx_unwrap.specs.Buffers.{layer_seen};
+ghost use Rattle.sphinx_unwrap.specs.Faults.{cause_of};
+ghost use Rattle.sphinx_unwrap.specs.Layer.{HasOtherLength, HasOtherVersion, IsSealedTo, ciphertext_of, commands_of, hop_keys_of, is_authentic, opened, payload_under, shape, tag_of, unhidden, unsealed};
+ghost use Rattle.sphinx_unwrap.specs.declared.faults.Refused.TheVariants.{Commands};
 
 use crate::{Refused, UnwrapFault};
-use mix_base::{HopKeys, Kdf, Kem, Mac, Stream, Suite, Wide};
+use mix_base::{HopKeys, Kdf, Kem, Mac, Memory, Stream, Suite, Wide};
 use packet_form::{Cmds, Geometry, read_cmds};
 use sha2::{Digest, Sha256};
 use std::alloc::{AllocError, Global};
@@ -32,6 +34,8 @@ pub struct OpenLayer {
 fn check_shape(geo: &Geometry, packet: &[u8]) -> Result<(), Refused>
     ensures exact { result ≡ shape geo.now packet.now }
     ensures whole { OnOk result (length packet.now ≡ lengths.packet geo.now) }
+    ensures length { IsErrOf result Refused.Length ↔ HasOtherLength geo.now packet.now }
+    ensures version { IsErrOf result Refused.Version ↔ HasOtherVersion geo.now packet.now }
 {
     if packet.len() != geo.packet() {
         return Err(Refused::Length);
@@ -51,24 +55,25 @@ fn ciphertext<'a>(geo: &Geometry, packet: &'a [u8]) -> &'a [u8]
     &packet[2..2 + geo.ct()]
 }
 
-/// The keys of this hop, whether or not the MAC is true under them.
+/// The keys of this hop, whether or not the MAC is true under them; `None` where the ciphertext is refused.
 #[tactic(auto, unfolding(crate::specs::Layer::hop_keys_of))]
 fn hop_keys<S: Suite>(
     alloc: Global,
     geo: &Geometry,
     sk: &[u8],
     packet: &[u8],
-) -> Result<HopKeys, UnwrapFault>
+) -> Result<Option<HopKeys>, Memory>
     requires ciphertext_length { geo.now.ct ≡ S.K.CT }
     requires secret_length { length sk.now ≡ S.K.SK }
     requires whole { length packet.now ≡ lengths.packet geo.now }
-    ensures { Gives result (ok_or (hop_keys_of S.meaning geo.now sk.now packet.now) Sealed) }
+    ensures value { IfOk result (λ keys. keys ≡ hop_keys_of S.meaning geo.now sk.now packet.now) }
+    ensures lean { IsTrue S.K.LEAN → IsOk result }
 {
     let mut secret = [0; 32];
     if S::K::decap(alloc, sk, ciphertext(geo, packet), &mut secret)? {
-        Ok(S::D::expand(&secret))
+        Ok(Some(S::D::expand(&secret)))
     } else {
-        Err(UnwrapFault::Refused(Refused::Sealed))
+        Ok(None)
     }
 }
 
@@ -90,17 +95,20 @@ fn unseal<S: Suite>(
     geo: &Geometry,
     sk: &[u8],
     packet: &[u8],
-) -> Result<HopKeys, UnwrapFault>
+) -> Result<Option<HopKeys>, Memory>
     requires ciphertext_length { geo.now.ct ≡ S.K.CT }
     requires secret_length { length sk.now ≡ S.K.SK }
     requires whole { length packet.now ≡ lengths.packet geo.now }
-    ensures { Gives result (ok_or (unsealed S.meaning geo.now sk.now packet.now) Sealed) }
+    ensures value { IfOk result (λ keys. keys ≡ unsealed S.meaning geo.now sk.now packet.now) }
+    ensures lean { IsTrue S.K.LEAN → IsOk result }
 {
-    let keys = hop_keys::<S>(alloc, geo, sk, packet)?;
+    let Some(keys) = hop_keys::<S>(alloc, geo, sk, packet)? else {
+        return Ok(None);
+    };
     if has_true_mac::<S>(geo, &keys, packet) {
-        Ok(keys)
+        Ok(Some(keys))
     } else {
-        Err(UnwrapFault::Refused(Refused::Sealed))
+        Ok(None)
     }
 }
 
@@ -113,8 +121,10 @@ fn unhide<S: Suite>(
     packet: &[u8],
 ) -> Result<Vec<u8>, AllocError>
     requires { length packet.now ≡ lengths.packet geo.now }
-    ensures value { IfOk result (λ slots. slots.items ≡ unhidden S.meaning geo.now keys.now packet.now) }
-    ensures length { IfOk result (λ slots. length slots.items ≡ lengths.routing geo.now + lengths.slot geo.now) }
+    ensures value { IfOk result (λ slots.
+        slots.items ≡ unhidden S.meaning geo.now keys.now packet.now) }
+    ensures length { IfOk result (λ slots.
+        length slots.items ≡ lengths.routing geo.now + lengths.slot geo.now) }
 {
     let whole = geo.routing() + geo.slot();
     let mut slots = Vec::with_capacity(alloc, whole)?;
@@ -142,7 +152,8 @@ fn decrypt_payload<S: Suite>(
     packet: &[u8],
 ) -> Result<Vec<u8>, AllocError>
     requires { length packet.now ≡ lengths.packet geo.now }
-    ensures value { IfOk result (λ payload. payload.items ≡ payload_under S.meaning geo.now packet.now keys.now) }
+    ensures value { IfOk result (λ payload.
+        payload.items ≡ payload_under S.meaning geo.now packet.now keys.now) }
     ensures length { IfOk result (λ payload. length payload.items ≡ lengths.payload geo.now) }
 {
     let mut payload = Vec::from_slice(alloc, &packet[geo.header()..])?;
@@ -160,16 +171,30 @@ pub fn open_layer<S: Suite>(
 ) -> Result<OpenLayer, UnwrapFault>
     requires ciphertext_length { geo.now.ct ≡ S.K.CT }
     requires secret_length { length sk.now ≡ S.K.SK }
-    ensures exact { GivesAs (layer_seen geo.now) result (opened S.meaning geo.now sk.now packet.now) }
+    ensures exact { GivesAs cause_of (layer_seen geo.now) result
+        (opened S.meaning geo.now sk.now packet.now) }
+    ensures length { IsErrOf result (UnwrapFault.Refused Refused.Length) ↔
+        HasOtherLength geo.now packet.now }
+    ensures version { IsErrOf result (UnwrapFault.Refused Refused.Version) ↔
+        HasOtherVersion geo.now packet.now }
+    ensures sealed { IsTrue S.K.LEAN → IsSealedTo S.meaning geo.now sk.now packet.now →
+        IsErrOf result (UnwrapFault.Refused Refused.Sealed) }
     ensures tag { IfOk result (λ layer. layer.tag ≡ tag_of geo.now packet.now) }
-    ensures slots { IfOk result (λ layer. IsSomeAnd (unsealed S.meaning geo.now sk.now packet.now) (λ keys. layer.slots.items ≡ unhidden S.meaning geo.now keys packet.now)) }
-    ensures commands { IfOk result (λ layer. read (commands_of geo.now layer.slots.items) ≡ Some layer.commands) }
-    ensures payload { IfOk result (λ layer. IsSomeAnd (unsealed S.meaning geo.now sk.now packet.now) (λ keys. layer.payload.items ≡ payload_under S.meaning geo.now packet.now keys)) }
-    ensures slots_length { IfOk result (λ layer. length layer.slots.items ≡ lengths.routing geo.now + lengths.slot geo.now) }
-    ensures payload_length { IfOk result (λ layer. length layer.payload.items ≡ lengths.payload geo.now) }
+    ensures slots { IfOk result (λ layer. IsSomeAnd (unsealed S.meaning geo.now sk.now packet.now)
+        (λ keys. layer.slots.items ≡ unhidden S.meaning geo.now keys packet.now)) }
+    ensures commands { IfOk result (λ layer.
+        read (commands_of geo.now layer.slots.items) ≡ Some layer.commands) }
+    ensures payload { IfOk result (λ layer. IsSomeAnd (unsealed S.meaning geo.now sk.now packet.now)
+        (λ keys. layer.payload.items ≡ payload_under S.meaning geo.now packet.now keys)) }
+    ensures slots_length { IfOk result (λ layer.
+        length layer.slots.items ≡ lengths.routing geo.now + lengths.slot geo.now) }
+    ensures payload_length { IfOk result (λ layer.
+        length layer.payload.items ≡ lengths.payload geo.now) }
 {
     check_shape(geo, packet)?;
-    let keys = unseal::<S>(alloc, geo, sk, packet)?;
+    let Some(keys) = unseal::<S>(alloc, geo, sk, packet)? else {
+        return Err(UnwrapFault::Refused(Refused::Sealed));
+    };
     let slots = unhide::<S>(alloc, geo, &keys, packet)?;
     let commands = read_commands(&slots[geo.ct()..geo.slot()])?;
     let payload = decrypt_payload::<S>(alloc, geo, &keys, packet)?;

@@ -2,13 +2,13 @@
 // refusal. Both are exactly those of the definitions in specs/, for every packet and every suite.
 #![tactic(auto)]
 
-mod fault;
+mod faults;
 mod layer;
 mod outcome;
 #[cfg(test)]
 mod tests;
 mod unwrapping;
 
-pub use fault::{Refused, UnwrapFault};
+pub use faults::{Refused, UnwrapFault};
 pub use outcome::{Opened, Out};
 pub use unwrapping::unwrap;

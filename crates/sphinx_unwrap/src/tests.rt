@@ -8,6 +8,7 @@ use packet_form::Geometry;
 use std::alloc::{AllocError, Global};
 use std::test::Fail;
 
+#[derive(Drop)]
 struct Plain;
 
 impl Kem for Plain {
@@ -246,9 +247,9 @@ fn each_exit_has_its_outcome(rt: HostRuntime) -> Result<(), Fail> {
     let rows: [(Option<u32>, Expected, [&[u8]; 5]); 6] = [
         (None, Expected::Forward, [&[], &[1], &ID, &MAC, &[]]),
         (
-            Some(500),
+            Some(1),
             Expected::Forward,
-            [&[0x80, 0, 0, 1, 0xf4], &[1], &ID, &MAC, &[]],
+            [&[0x80, 0, 0, 0, 1], &[1], &ID, &MAC, &[]],
         ),
         (None, Expected::Body, [&[], &[2], &ID, &[], &[]]),
         (

@@ -1,24 +1,20 @@
 // Unwrapping: a layer is taken off, and what goes out of it is made.
-ghost use Rattle.std.specs.Prelude.{◌≡◌, ◌+◌, [], ◌∷◌, ◌++◌, length, drop, slice_range, IfOk, OnOk, IsSomeAnd, option_map};
+ghost use Rattle.std.specs.Prelude.{◌≡◌, ◌+◌, ◌↔◌, length, drop, slice_range, IfOk, OnOk, IsErrOf, IsTrue, option_map};
 ghost use Rattle.std.specs.Option.{option_copied};
-ghost use Rattle.packet_form.specs.Commands.{HasLengths, all_zero};
+ghost use Rattle.mix_base.specs.Results.{Gives};
+ghost use Rattle.packet_form.specs.Commands.{HasLengths};
 ghost use Rattle.packet_form.specs.Geometry as lengths;
-ghost use Rattle.sphinx_unwrap.specs.Layer.{payload_under, tag_of, unhidden, unsealed};
-ghost use Rattle.sphinx_unwrap.specs.Outcome.{Gives, Says, layer_seen, out, received, unwrapped};
+ghost use Rattle.sphinx_unwrap.specs.Buffers.{layer_seen};
+ghost use Rattle.sphinx_unwrap.specs.Faults.{cause_of};
+ghost use Rattle.sphinx_unwrap.specs.Layer.{HasOtherLength, HasOtherVersion, IsSealedTo, tag_of};
+ghost use Rattle.sphinx_unwrap.specs.Outcome.{SaysUnder, out, packet_of, received, unwrapped};
 ghost use Rattle.sphinx_unwrap.specs.Payload.{body_of, read_block};
 
 use crate::layer::{OpenLayer, open_layer};
-use crate::{Opened, Out, UnwrapFault};
-use mix_base::{Bytes, Suite};
+use crate::{Opened, Out, Refused, UnwrapFault};
+use mix_base::{Bytes, Suite, is_zero};
 use packet_form::{Exit, Geometry};
 use std::alloc::{AllocError, Global};
-
-/// Whether all bytes are zero.
-fn is_zero(bytes: &[u8]) -> bool
-    ensures { result ≡ all_zero bytes.now }
-{
-    bytes.iter().all(|byte| *byte == 0)
-}
 
 /// The block, or none, of a payload that is right before its body; `None` where it isn't.
 #[tactic(auto, unfolding(crate::specs::Payload::read_block))]
@@ -52,7 +48,8 @@ fn receive(
     payload: &[u8],
 ) -> Result<Out, AllocError>
     requires { length payload.now ≡ lengths.payload geo.now }
-    ensures { IfOk result (λ out. out ≡ received recipient (body_of geo.now payload.now) (read_block geo.now payload.now)) }
+    ensures { IfOk result (λ out. out ≡
+        received recipient (body_of geo.now payload.now) (read_block geo.now payload.now)) }
 {
     let Some(block) = block_in(geo, payload) else {
         return Ok(Out::Damaged { recipient });
@@ -78,7 +75,8 @@ fn forward(
     payload: &[u8],
 ) -> Result<Bytes, AllocError>
     requires { length slots.now ≡ lengths.routing geo.now + lengths.slot geo.now }
-    ensures { IfOk result (λ packet. packet ≡ 0 ∷ 0 ∷ slice_range slots.now 0 geo.now.ct ++ drop (lengths.slot geo.now) slots.now ++ mac.now ++ payload.now) }
+    ensures { IfOk result (λ packet. packet ≡ packet_of (slice_range slots.now 0 geo.now.ct)
+        (drop (lengths.slot geo.now) slots.now) mac.now payload.now) }
 {
     let mut packet = Vec::with_capacity(alloc, geo.packet())?;
     packet.extend_from_slice(&[0, 0])?;
@@ -96,16 +94,22 @@ fn leave(alloc: Global, geo: &Geometry, layer: OpenLayer) -> Result<Out, AllocEr
     ensures value { IfOk result (λ left. left ≡ out geo.now (layer_seen geo.now layer)) }
     ensures lengths { OnOk result (HasLengths layer.commands.exit) }
 {
-    match layer.commands.exit {
+    let OpenLayer {
+        tag: _,
+        commands,
+        slots,
+        payload,
+    } = layer;
+    match commands.exit {
         Exit::Hop { id, mac } => {
-            let packet = forward(alloc, geo, &layer.slots, &mac, &layer.payload)?;
+            let packet = forward(alloc, geo, &slots, &mac, &payload)?;
             Ok(Out::Forward { next: id, packet })
         }
-        Exit::Recipient { id } => receive(alloc, geo, id, &layer.payload),
+        Exit::Recipient { id } => receive(alloc, geo, id, &payload),
         Exit::Reply { id, surb } => Ok(Out::Reply {
             recipient: id,
             surb,
-            payload: owned(alloc, &layer.payload)?,
+            payload: Bytes::of(payload),
         }),
     }
 }
@@ -121,11 +125,19 @@ pub fn unwrap<S: Suite>(
 ) -> Result<Opened, UnwrapFault>
     requires ciphertext_length { geo.now.ct ≡ S.K.CT }
     requires secret_length { length sk.now ≡ S.K.SK }
-    ensures exact { Gives result (unwrapped S.meaning geo.now sk.now packet.now) }
+    ensures exact { Gives cause_of result (unwrapped S.meaning geo.now sk.now packet.now) }
+    // These refusals come whether or not there is memory: of a length or a version, and, where the mechanism takes no
+    // memory, of a secret key that doesn't open the packet.
+    ensures length { IsErrOf result (UnwrapFault.Refused Refused.Length) ↔
+        HasOtherLength geo.now packet.now }
+    ensures version { IsErrOf result (UnwrapFault.Refused Refused.Version) ↔
+        HasOtherVersion geo.now packet.now }
+    ensures sealed { IsTrue S.K.LEAN → IsSealedTo S.meaning geo.now sk.now packet.now →
+        IsErrOf result (UnwrapFault.Refused Refused.Sealed) }
     ensures tag { IfOk result (λ opened. opened.tag ≡ tag_of geo.now packet.now) }
     // The secret key opens the packet; delay and exit are those of the commands in its slot; and what goes out is, by
     // the exit, a packet of the parts behind the layer, what the payload spells, or the whole payload.
-    ensures says { IfOk result (λ opened. IsSomeAnd (unsealed S.meaning geo.now sk.now packet.now) (λ keys. Says geo.now (unhidden S.meaning geo.now keys packet.now) (payload_under S.meaning geo.now packet.now keys) opened)) }
+    ensures says { IfOk result (SaysUnder S.meaning geo.now sk.now packet.now) }
 {
     let layer = open_layer::<S>(alloc, geo, sk, packet)?;
     let tag = layer.tag;

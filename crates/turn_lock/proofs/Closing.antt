@@ -9,7 +9,8 @@ use Rattle.turn_lock.specs.Seen.{Origin, Lock, Caller}
 use Rattle.turn_lock.specs.Stories.{entries_by, after, Begins}
 use Rattle.turn_lock.specs.declared.view.Role.TheVariants.{Rests}
 use Rattle.turn_lock.specs.declared.view.View.{View}
-use Rattle.turn_lock.specs.Turns.{OneStory, SpeaksFor}
+use Rattle.turn_lock.specs.TurnRule.{OneStory}
+use Rattle.turn_lock.specs.Seats.{SpeaksFor}
 use Rattle.turn_lock.proofs.Lists.{in_cons}
 use Rattle.turn_lock.proofs.Keeps.{Whole, whole}
 

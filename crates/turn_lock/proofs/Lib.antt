@@ -1,5 +1,5 @@
 mod Closing
 mod Keeps
-mod Lists
+pub mod Lists
 mod Passes
-mod Rounds
+pub mod Rounds

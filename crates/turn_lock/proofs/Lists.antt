@@ -65,6 +65,12 @@ module _ {A : Type 0} where
   pub after_whole : (xs ys zs : List A) → xs ++ ys ≡ zs → after xs zs ≡ ys
   after_whole xs ys zs e = ap (after xs) (sym e) ∙ after-append xs ys
 
+  -- what stands behind a beginning of one list that has a common front with it
+  pub behind_first : (front seen rest since : List A) → Begins front seen → seen ++ rest ≡ front ++ since → (mid : List A) × (mid ++ rest ≡ since)
+  behind_first front seen rest since begins e =
+      let whole : front ++ (begins.0 ++ rest) ≡ front ++ since = sym (append_assoc front begins.0 rest) ∙ (ap (λ (xs : List A). xs ++ rest) begins.1 ∙ e) in
+      (begins.0, sym (after-append front (begins.0 ++ rest)) ∙ (ap (after front) whole ∙ after-append front since))
+
   -- of two beginnings of one list the shorter begins the longer
   pub begins_longer : (xs ys r s : List A) → xs ++ r ≡ ys ++ s → length xs ≤ length ys → (mid : List A) × (xs ++ mid ≡ ys) × (r ≡ mid ++ s)
   begins_longer [] ys r s e le = (ys, refl, e)

@@ -1,16 +1,17 @@
 -- What a pass knows before and after its calls.
-use Rattle.std.proofs.Common.{◌≡◌, ℕ, ◌-◌, true, List, [], ◌∷◌, ◌++◌, length, Some, None, Option, refl, sym, ap, ◌∙◌, subst, ⊎_elim, arith, append_assoc, length-drop}
+use Rattle.std.proofs.Common.{◌≡◌, ℕ, zero, suc, ◌-◌, ◌<◌, map, true, List, [], ◌∷◌, ◌++◌, length, Some, None, Option, refl, sym, ap, ◌∙◌, subst, ⊎_elim, arith, append_assoc, length-drop}
 use Rattle.std.proofs.lemmas.List.Elements.{Contains-append_left, Contains-append_right}
 use Rattle.std.specs.Prelude.{All, Contains, slice_index_or, unwrap_or}
+use Rattle.std.specs.List.{range_with_len}
 use Rattle.atomic_table.specs.Table.{Me}
 use Rattle.atomic_table.specs.Seated.{TableId}
 use Rattle.atomic_table.specs.declared.shared.Seat.{Seat}
 use Rattle.turn_lock.specs.Seen.{Origin, Lock, Caller, resting}
 use Rattle.turn_lock.specs.Stories.{entries_by, after, Begins}
 use Rattle.turn_lock.specs.declared.view.Role.{Role}
-use Rattle.turn_lock.specs.declared.view.Role.TheVariants.{Spent, Deals, Rests, Turns}
+use Rattle.turn_lock.specs.declared.view.Role.TheVariants.{Spent, Rests, Turns}
 use Rattle.turn_lock.specs.declared.view.View.{View}
-use Rattle.turn_lock.specs.Turns.{view, both, SpeaksFor, IsSeatFor, IsSeatOfAll, Took, Brings, Counted, is_at_turn, made_by, Stands, IsPass}
+use Rattle.turn_lock.specs.Seats.{view, both, made_more, grown, ended, SpeaksFor, IsSeatFor, IsSeatOfAll, Took, Brings, IsBack, is_at_turn, made_by, Stands, IsPass}
 use Rattle.turn_lock.proofs.Lists.{one_in, in_cons, cons_in, after_whole, all_middle, all_cons, all_map}
 
 -- what a seat has in hand is one value
@@ -19,7 +20,6 @@ same_hand {T} x y e = ap (λ (l : List (ℕ × Option T)). unwrap_or (slice_inde
 
 pub turns_if : (r : Role) → is_at_turn r ≡ true → r ≡ Turns
 turns_if Spent e = absurd cc
-turns_if (Deals n) e = absurd cc
 turns_if Rests e = absurd cc
 turns_if Turns e = refl
 
@@ -31,52 +31,57 @@ module _ {T E : Type 0} (origin : T → Origin) (story : T → List E) (caller :
       let x_is : x ≡ y = same_hand x y (sym took.hand ∙ hand) in
       subst (λ (z : T). entries_by caller number (after m.0.seen (story z)) ≡ []) x_is (took.others (number, made_by m.0.callers) (one_in m.0.callers (number, made_by m.0.callers) pass.one))
 
-  module _ (number entries : ℕ) (m : Me (Option T) (View E)) (pass : IsPass number entries m) (turns : is_at_turn m.0.role ≡ true) (value : T) where
+  module _ (number entries : ℕ) (m : Me (Option T) (View E)) (pass : IsPass number entries m) (turns : is_at_turn m.0.role ≡ true) (value : T) (begins : Begins m.0.seen (story value)) where
     at_turn : (m.1 ≡ (0, None) ∷ []) × (entries ≡ length m.0.seen)
     at_turn = let P : Role → Type 0 = Stands entries m in subst P (turns_if m.0.role turns) pass.stands
 
+    abbrev new : List E
+    new = after m.0.seen (story value)
+
+    whole : m.0.seen ++ new ≡ story value
+    whole = ap (λ (es : List E). m.0.seen ++ es) (after_whole m.0.seen begins.0 (story value) begins.1) ∙ begins.1
+
     -- the entries that a value brings when it is given back
-    pub brings : (total : ℕ) (p : Me (Option T) (View E)) → p ≡ (m.0, (0, Some value) ∷ []) → Begins m.0.seen (story value) → All (λ e. caller e ≡ number) (after m.0.seen (story value)) → total ≡ length (story value)
-        → Brings origin story caller p (total - entries)
-    brings total p back begins his long = let P : Me (Option T) (View E) → Type 0 = λ q. Brings origin story caller q (total - entries) in subst P (sym back) record {
-      value = value;
+    pub brings : (total : ℕ) → All (λ e. caller e ≡ number) new → total ≡ length (story value) → Brings origin story caller value new m (total - entries)
+    brings total his long = record {
       number = number;
       made = made_by m.0.callers;
-      added = after m.0.seen (story value);
       turns = turns_if m.0.role turns;
-      hand = refl;
+      out = at_turn.0;
       one = pass.one;
-      grew = ap (λ (es : List E). m.0.seen ++ es) (after_whole m.0.seen begins.0 (story value) begins.1) ∙ begins.1;
+      grew = whole;
       his = his;
       many = (λ i. long i - at_turn.1 i) ∙ sym (length-drop (length m.0.seen) (story value));
     }
 
+    -- the seat once they are counted, while the value is out
     abbrev counted : Me (Option T) (View E)
-    counted = (view Turns ((number, made_by m.0.callers ++ after m.0.seen (story value)) ∷ []) m.0.origin (story value) m.0.heard, (0, Some value) ∷ [])
+    counted = (view Turns m.0.next ((number, made_by m.0.callers ++ new) ∷ []) m.0.origin (story value) m.0.heard, (0, None) ∷ [])
 
-    -- the seat once they are counted
-    pub counted_is : (p q : Me (Option T) (View E)) → p ≡ (m.0, (0, Some value) ∷ [])
-        → ((x : T) → p.1 ≡ (0, Some x) ∷ [] → (c : ℕ) (made : List E) → p.0.callers ≡ (c, made) ∷ [] → q ≡ (view Turns ((c, made ++ after p.0.seen (story x)) ∷ []) p.0.origin (story x) p.0.heard, p.1))
-        → q ≡ counted
-    counted_is p q back counts =
-        counts value (ap (λ (z : Me (Option T) (View E)). z.1) back) number (made_by m.0.callers) (ap (λ (z : Me (Option T) (View E)). z.0.callers) back ∙ pass.one)
-        ∙ (λ i. (view Turns ((number, made_by m.0.callers ++ after (back i).0.seen (story value)) ∷ []) (back i).0.origin (story value) (back i).0.heard, (back i).1))
+    pub counted_is : (q : Me (Option T) (View E)) → q ≡ grown new m → q ≡ counted
+    counted_is q is = is ∙ (λ i. (view Turns m.0.next (made_more (pass.one i) new) m.0.origin (whole i) m.0.heard, at_turn.0 i))
 
-    pub is_counted : (q : Me (Option T) (View E)) → q ≡ counted → origin value ≡ m.0.origin → Counted origin story caller q
-    is_counted q is same = let P : Me (Option T) (View E) → Type 0 = Counted origin story caller in
-        subst P (sym is) record { value = value; turns = refl; hand = refl; told = refl; same = same }
+    pub hand_of : (q : Me (Option T) (View E)) → q ≡ grown new m → q.1 ≡ (0, None) ∷ []
+    hand_of q is = ap (λ (z : Me (Option T) (View E)). z.1) (counted_is q is)
 
-    abbrev ended : Me (Option T) (View E)
-    ended = (view Rests ((number, made_by m.0.callers ++ after m.0.seen (story value)) ∷ []) m.0.origin (story value) m.0.heard, [])
+    -- and once the value is back
+    pub is_back : (q p : Me (Option T) (View E)) → q ≡ grown new m → p ≡ (q.0, (0, Some value) ∷ []) → origin value ≡ m.0.origin → IsBack origin story caller p
+    is_back q p is back same =
+        let all : p ≡ (counted.0, (0, Some value) ∷ []) = back ∙ (λ i. ((counted_is q is i).0, (0, Some value) ∷ [])) in
+        let P : Me (Option T) (View E) → Type 0 = IsBack origin story caller in
+        subst P (sym all) record { value = value; turns = refl; hand = refl; told = refl; same = same }
 
     -- and once the turn is over
-    pub ended_is : (q n : Me (Option T) (View E)) → q ≡ counted → n ≡ (view Rests q.0.callers q.0.origin q.0.seen q.0.heard, []) → n ≡ ended
-    ended_is q n is ends = ends ∙ (λ i. (view Rests (is i).0.callers (is i).0.origin (is i).0.seen (is i).0.heard, []))
+    abbrev rested : Me (Option T) (View E)
+    rested = (view Rests m.0.next ((number, made_by m.0.callers ++ new) ∷ []) m.0.origin (story value) m.0.heard, [])
 
-    pub rests_again : (n : Me (Option T) (View E)) (entries' : ℕ) → n ≡ ended → IsPass number entries' n
+    pub rested_is : (q p n : Me (Option T) (View E)) → q ≡ grown new m → p ≡ (q.0, (0, Some value) ∷ []) → n ≡ ended p → n ≡ rested
+    rested_is q p n is back ends = ends ∙ (ap ended back ∙ (λ i. ended ((counted_is q is i).0, (0, Some value) ∷ [])))
+
+    pub rests_again : (n : Me (Option T) (View E)) (entries' : ℕ) → n ≡ rested → IsPass number entries' n
     rests_again n entries' is = let P : Me (Option T) (View E) → Type 0 = IsPass number entries' in subst P (sym is) record { one = refl; stands = refl }
 
-    pub gave : (z z' : TableId) (n : Me (Option T) (View E)) → z' ≡ z → n ≡ ended
+    pub gave : (z z' : TableId) (n : Me (Option T) (View E)) → z' ≡ z → n ≡ rested
         → record { lock = z'; number = number; holds = is_at_turn n.0.role; origin = n.0.origin; seen = n.0.seen; made = made_by n.0.callers }
         ≡ resting record { lock = z; number = number; holds = is_at_turn m.0.role; origin = m.0.origin; seen = m.0.seen; made = made_by m.0.callers } (story value)
     gave z z' n same is = λ i. record { lock = same i; number = number; holds = is_at_turn (is i).0.role; origin = (is i).0.origin; seen = (is i).0.seen; made = made_by (is i).0.callers }
@@ -106,6 +111,14 @@ module _ {E : Type 0} where
   -- what holds of all passes holds of the one that was taken from the end of those that are left
   pub of_popped : (P : Caller E → Type 0) (all left left' done : List (Caller E)) (p : Caller E) → all ≡ left ++ done → left ≡ left' ++ p ∷ [] → All P all → P p
   of_popped P all left left' done p whole last h = all_middle P left' done p (subst (All P) (popped all left left' done p whole last) h)
+
+module _ {A : Type 0} where
+  -- a list with one element before the others
+  pub all_numbered : (f : ℕ → A) (n : ℕ) (xs : List A) → 0 < n → xs ≡ map f (range_with_len 1 (n - 1)) → f 0 ∷ xs ≡ map f (range_with_len 0 n)
+  all_numbered f zero xs some_ e = absurd (omega arith)
+  all_numbered f (suc n) xs some_ e =
+      let one_less : suc n - 1 ≡ n = omega arith in
+      ap (λ (ys : List A). f 0 ∷ ys) (e ∙ ap (λ (k : ℕ). map f (range_with_len 1 k)) one_less)
 
 module _ {T E : Type 0} where
   -- a seat that takes in the seat of one pass more speaks for it too

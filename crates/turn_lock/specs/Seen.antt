@@ -1,5 +1,5 @@
 -- What contracts see of a lock and of a pass.
-use Rattle.std.specs.Prelude.{◌≡◌, ℕ, Bool, true, false, ◌+◌, List, [], ◌∷◌, ◌++◌, map, refl}
+use Rattle.std.specs.Prelude.{◌≡◌, ℕ, ⊤, Bool, true, false, ◌+◌, List, [], ◌∷◌, ◌++◌, map, refl}
 use Rattle.std.specs.List.{range_with_len}
 use Rattle.std.specs.Coded.{Coded, code_by, coded×, coded_ℕ, coded_bool, coded_list}
 use Rattle.atomic_table.specs.Seated.{TableId, table_id_coded}
@@ -39,6 +39,10 @@ caller_code {E} c = code_by (TableId × (ℕ × (Bool × (Origin × (List E × L
     (λ p. (p.lock, (p.number, (p.holds, (p.origin, (p.seen, p.made)))))) (λ t. record { lock = t.0; number = t.1.0; holds = t.1.1.0; origin = t.1.1.1.0; seen = t.1.1.1.1.0; made = t.1.1.1.1.1 }) (λ _. refl)
 
 module _ {E : Type 0} where
+  -- the lock was made for so many callers, over a value with this origin and story
+  abbrev pub IsLockOver : Lock E → ℕ → Origin → List E → Type 0
+  IsLockOver lock callers origin story = (lock.callers ≡ callers) × (lock.origin ≡ origin) × (lock.story ≡ story)
+
   -- the pass is one of this lock, and knows its origin
   abbrev pub IsOf : Lock E → Caller E → Type 0
   IsOf lock pass = (pass.lock ≡ lock.id) × (pass.origin ≡ lock.origin)
@@ -49,7 +53,7 @@ module _ {E : Type 0} where
 
   -- these are the passes with the numbers from n on, and they hold nothing
   abbrev pub AreIdle : Lock E → ℕ → List (Caller E) → Type 0
-  AreIdle lock n [] = Unit {0}
+  AreIdle lock n [] = ⊤
   AreIdle lock n (p ∷ ps) = IsIdle lock n p × AreIdle lock (n + 1) ps
 
   -- the pass with this number as the lock is made: it has seen the lock's first story

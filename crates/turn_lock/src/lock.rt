@@ -1,20 +1,21 @@
 // The lock and its passes.
 ghost use Rattle.std.specs.Prelude.{◌≡◌, ◌+◌, ◌<◌, ◌≤◌, ℕ, [], true, false, All, Any, IfOk, IfErr, vec_len, vec_capacity};
-ghost use Rattle.turn_lock.specs.Seen.{IsOf, new_pass, new_passes, holding, resting};
+ghost use Rattle.std.specs.List.Sorted.{IsPermutation};
+ghost use Rattle.turn_lock.specs.Seen.{IsOf, IsLockOver, new_pass, new_passes, holding, resting};
 ghost use Rattle.turn_lock.specs.Stories.{entries_by, after, Begins};
-ghost use Rattle.turn_lock.specs.Turns.{IsDealer, IsSeatFor, IsSeatOfAll};
+ghost use Rattle.turn_lock.specs.Seats.{IsFirst, IsSeatFor, IsSeatOfAll, passes_from};
 ghost use Rattle.std.specs.Slots.{slots_items, slots_len, IsFull};
 ghost use mathlib.Core.Option.{some};
 ghost use lib.ListN.{get_elem?};
 
 use crate::steps::{
-    BUSY, Deals, Gathers, Place, Start, Told, begin, count, end, put_back, take_out, wait_begin,
+    BUSY, Deals, Gathers, Place, Start, Told, count, end, put_back, take_out, wait_begin,
 };
 use crate::view::View;
 use atomic_table::{Closed, Refused, Table};
 use mix_base::{Memory, Storied};
 use std::alloc::Global;
-use std::marker::Model;
+use std::marker::{Brand, Model};
 use std::snapshot::Snapshot;
 use std::sync::Wait;
 use std::sync::atomic::AtomicU64;
@@ -36,7 +37,7 @@ impl<T: Storied> Model for Pass<T> {
 
     ghost coded = { caller_code T.Entry.code };
 
-    ghost use Rattle.turn_lock.specs.Turns.{IsPass, is_at_turn, made_by};
+    ghost use Rattle.turn_lock.specs.Seats.{IsPass, is_at_turn, made_by};
 
     ghost view = { λ p. record { lock = p.seat.table_id; number = p.number; holds = is_at_turn p.seat.me.0.role; origin = p.seat.me.0.origin; seen = p.seat.me.0.seen; made = made_by p.seat.me.0.callers } };
 
@@ -48,7 +49,7 @@ impl<T: Storied> Model for Pass<T> {
 pub struct TurnLock<T: Storied> {
     table: Table<Option<T>, View<T::Entry>, Start<T>, Told, Global>,
     // How many takers may be asleep. A giver reads it to know whether to wake one.
-    sleepers: AtomicU64,
+    pub(crate) sleepers: AtomicU64,
 }
 
 impl<T: Storied> Model for TurnLock<T> {
@@ -71,15 +72,15 @@ pub struct MadeLock<T: Storied> {
     pub passes: Vec<Pass<T>>,
 }
 
-// The table with the value in its slot, and the seat that gives the callers' numbers away.
+// The table with the value in its slot, and the first seat, which has caller 0.
 fn lay<T: Storied>(
     alloc: Global,
     value: T,
     callers: u32,
 ) -> Result<(TurnLock<T>, Place<T>), (T, Memory)>
     requires { 0 < callers }
-    ensures lock { IfOk result (λ r. (r.0.callers ≡ callers) × (r.0.origin ≡ T.origin value) × (r.0.story ≡ T.story value)) }
-    ensures dealer { IfOk result (λ r. IsDealer r.0 0 r.1) }
+    ensures lock { IfOk result (λ r. IsLockOver r.0 callers (T.origin value) (T.story value)) }
+    ensures first { IfOk result (λ r. IsFirst r.0 1 r.1) }
     ensures err { IfErr result (λ r. r.0 ≡ value) }
 {
     let Ok(mut slots) = Vec::with_capacity(alloc, 1) else {
@@ -108,21 +109,47 @@ fn lay<T: Storied>(
     }
 }
 
-// A pass for each of the callers, whose room was made.
+// A pass for each of the callers but the first, whose room was made.
 fn deal<T: Storied>(
     lock: &TurnLock<T>,
-    mut dealer: Place<T>,
+    first: &mut Place<T>,
     mut passes: Vec<Pass<T>>,
     callers: u32,
 ) -> Vec<Pass<T>>
-    requires dealer { IsDealer lock.now 0 dealer }
+    requires first { IsFirst lock.now 1 first.old }
     requires callers { callers ≡ lock.now.callers }
+    requires some { 0 < callers }
     requires room { (passes.items ≡ []) × (callers ≤ vec_capacity passes) }
-    ensures { result.items ≡ new_passes lock.now callers }
+    ensures first { IsFirst lock.now callers first.new }
+    ensures passes { result.items ≡ passes_from lock.now 1 callers }
+    ensures room { vec_len result < vec_capacity result }
 {
-    for number in 0..callers {
-        passes.push_reserved(lock.next_pass(&mut dealer, number));
+    for number in 1..callers {
+        passes.push_reserved(lock.next_pass(first, number));
     }
+    passes
+}
+
+// All passes: that of the first seat, which has caller 0, before the others.
+fn with_first<T: Storied>(
+    lock: &TurnLock<T>,
+    first: Place<T>,
+    mut passes: Vec<Pass<T>>,
+) -> Vec<Pass<T>>
+    requires first { IsFirst lock.now lock.now.callers first }
+    requires passes { passes.items ≡ passes_from lock.now 1 lock.now.callers }
+    requires some { 0 < lock.now.callers }
+    requires room { vec_len passes < vec_capacity passes }
+    ensures { result.items ≡ new_passes lock.now lock.now.callers }
+{
+    let pass = Pass {
+        number: 0,
+        entries: 0,
+        seat: first,
+    };
+    let Ok(()) = passes.insert(0, pass) else {
+        unreachable!()
+    };
     passes
 }
 
@@ -139,7 +166,21 @@ fn seat_of<T: Storied>(pass: Pass<T>) -> Place<T>
     seat
 }
 
-// One seat that speaks for all passes.
+// Puts the pass of the first seat at the end, where it is taken first.
+fn first_to_end<T: Storied>(passes: &mut Vec<Pass<T>>)
+    requires { 0 < vec_len passes.old }
+    ensures same { IsPermutation passes.old.items passes.new.items }
+    ensures len { vec_len passes.new ≡ vec_len passes.old }
+{
+    let last = passes.len() - 1;
+    let at = passes
+        .iter()
+        .position(|pass| pass.number == 0)
+        .unwrap_or(last);
+    passes.swap(at, last);
+}
+
+// One seat that speaks for all passes: the others are joined into the last one's, which is the first seat.
 fn gather<T: Storied>(lock: &TurnLock<T>, mut passes: Vec<Pass<T>>) -> Place<T>
     requires own { All (IsOf lock.now) passes.items }
     requires rest { All (λ p. p.holds ≡ false) passes.items }
@@ -172,26 +213,27 @@ impl<T: Storied> TurnLock<T> {
     /// A lock over the value, with one pass for each caller, numbered from 0. Where memory is wanting the value comes back.
     pub fn new(alloc: Global, value: T, callers: u32) -> Result<MadeLock<T>, (T, Memory)>
         requires { 0 < callers }
-        ensures lock { IfOk result (λ m. (m.lock.callers ≡ callers) × (m.lock.origin ≡ T.origin value) × (m.lock.story ≡ T.story value)) }
+        ensures lock { IfOk result (λ m. IsLockOver m.lock callers (T.origin value) (T.story value)) }
         ensures passes { IfOk result (λ m. m.passes.items ≡ new_passes m.lock callers) }
         ensures err { IfErr result (λ e. e.0 ≡ value) }
     {
         let Ok(room) = Vec::with_capacity(alloc, callers as usize) else {
             return Err((value, Memory));
         };
-        let (lock, dealer) = lay(alloc, value, callers)?;
-        let passes = deal(&lock, dealer, room, callers);
+        let (lock, mut first) = lay(alloc, value, callers)?;
+        let others = deal(&lock, &mut first, room, callers);
+        let passes = with_first(&lock, first, others);
         Ok(MadeLock { lock, passes })
     }
 
     // The pass with the next number.
-    fn next_pass(&self, dealer: &mut Place<T>, number: u32) -> Pass<T>
-        requires dealer { IsDealer self.now number dealer.old }
+    fn next_pass(&self, first: &mut Place<T>, number: u32) -> Pass<T>
+        requires first { IsFirst self.now number first.old }
         requires few { number < self.now.callers }
         ensures pass { result ≡ new_pass self.now number }
-        ensures dealer { IsDealer self.now (number + 1) dealer.new }
+        ensures first { IsFirst self.now (number + 1) first.new }
     {
-        let seat = self.table.shared.split_seat::<Deals>(dealer);
+        let seat = self.table.shared.split_seat::<Deals>(first);
         Pass {
             number,
             entries: 0,
@@ -230,8 +272,8 @@ impl<T: Storied> TurnLock<T> {
     {
         let steps = &self.table.shared;
         let new = value.entries() - pass.entries;
+        count::<T, Brand>(steps, &mut pass.seat, &value, new);
         put_back(steps, &mut pass.seat, value);
-        count(steps, &mut pass.seat, new);
         end(steps, &mut pass.seat);
         if self.sleepers.load(SeqCst) > 0 {
             steps.wake_one(BUSY);
@@ -239,7 +281,7 @@ impl<T: Storied> TurnLock<T> {
     }
 
     /// Gives the value out for good, once every pass is back and none holds it.
-    pub fn close(self, passes: Vec<Pass<T>>) -> T
+    pub fn close(self, mut passes: Vec<Pass<T>>) -> T
         requires own { All (IsOf self) passes.items }
         requires rest { All (λ p. p.holds ≡ false) passes.items }
         requires every { (c : ℕ) → c < self.callers → Any (λ p. p.number ≡ c) passes.items }
@@ -253,6 +295,7 @@ impl<T: Storied> TurnLock<T> {
         ensures made { All (λ p. entries_by T.caller p.number (after self.story (T.story result)) ≡ p.made) passes.items }
         ensures others { All (λ e. T.caller e < self.callers) (after self.story (T.story result)) }
     {
+        first_to_end(&mut passes);
         let all = gather(&self, passes);
         let TurnLock { table, sleepers: _ } = self;
         let Some(value) = slot_of(table.close_with(all)) else {

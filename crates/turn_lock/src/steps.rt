@@ -1,14 +1,13 @@
 // The steps on the lock's table. Word 0 counts the entries of the one story, word 1 is busy while a seat is at
 // turn, and the slot has the value. Each step keeps the rule, and tells its seat what it learned.
-ghost use Rattle.std.specs.Prelude.{◌≡◌, List, [], ◌∷◌, ◌++◌, ℕ, Some, None, MatchBool};
-ghost use Rattle.turn_lock.specs.Stories.{after};
-ghost use Rattle.turn_lock.specs.Turns.{Took, IsAtRest, IsSeatOf, IsSameSeat, Brings, Counted, view};
-ghost use Rattle.turn_lock.specs.declared.view.Role.TheVariants.{Rests, Turns};
+ghost use Rattle.std.specs.Prelude.{◌≡◌, List, [], ◌∷◌, Some, None, MatchBool};
+ghost use Rattle.turn_lock.specs.Seats.{Took, MayTurn, IsSeatOf, IsSameSeat, Brings, IsBack, grown, ended};
 
 use crate::view::View;
 use atomic_table::{Join, Play, Seat, Shared, Split, TableRule};
 use mix_base::Storied;
 use std::hint::spin_loop;
+use std::marker::{Brand, PhantomData};
 use std::snapshot::Snapshot;
 use std::sync::Wait;
 use std::sync::atomic::AtomicU64;
@@ -32,11 +31,12 @@ pub(crate) struct Start<T> {
 pub(crate) struct Told;
 
 impl<T: Storied> TableRule<Option<T>, View<T::Entry>, Start<T>> for Told {
-    ghost use Rattle.turn_lock.specs.Turns.{OneStory, dealer};
+    ghost use Rattle.turn_lock.specs.TurnRule.{OneStory};
+    ghost use Rattle.turn_lock.specs.Seats.{first_seat};
 
     ghost holds = { λ key. OneStory T.origin T.story T.caller (T.origin key.value.value) (T.story key.value.value) key.callers };
 
-    ghost first = { λ key. dealer 0 (T.origin key.value.value) (T.story key.value.value) };
+    ghost first = { λ key. first_seat 1 (T.origin key.value.value) (T.story key.value.value) };
 }
 
 pub(crate) type Steps<T> = Shared<Option<T>, View<<T as Storied>::Entry>, Start<T>, Told>;
@@ -46,43 +46,56 @@ pub(crate) type Place<T> = Seat<Option<T>, View<<T as Storied>::Entry>>;
 pub(crate) struct Takes;
 
 impl<T: Storied> Play<Option<T>, View<T::Entry>> for Takes {
-    ghost use Rattle.turn_lock.specs.Turns.{takes_turn};
+    ghost use Rattle.turn_lock.specs.Seats.{takes_turn};
 
     ghost then = { λ _. takes_turn T.origin T.story T.caller };
 }
 
-pub(crate) struct Counts;
+// Which entries a caller adds to the story: each call of `count` picks them. They are there for proofs alone.
+pub(crate) trait Added<E> {
+    ghost added: { List E };
+}
 
-impl<T: Storied> Play<Option<T>, View<T::Entry>> for Counts {
-    ghost use Rattle.turn_lock.specs.Turns.{counts};
+impl<E> Added<E> for Brand {
+    ghost added = { [] };
+}
 
-    ghost then = { λ _. counts T.origin T.story T.caller };
+pub(crate) struct Counts<J> {
+    of: PhantomData<J>,
+}
+
+impl<T: Storied, J: Added<T::Entry>> Play<Option<T>, View<T::Entry>> for Counts<J> {
+    ghost use Rattle.std.specs.Prelude.{◌≡◌};
+    ghost use Rattle.turn_lock.specs.Seats.{grown};
+
+    ghost then = { λ _ m _ n. n ≡ grown J.added m };
 }
 
 pub(crate) struct Ends;
 
 impl<T: Storied> Play<Option<T>, View<T::Entry>> for Ends {
-    ghost use Rattle.turn_lock.specs.Turns.{ends_turn};
+    ghost use Rattle.std.specs.Prelude.{◌≡◌};
+    ghost use Rattle.turn_lock.specs.Seats.{ended};
 
-    ghost then = { λ _. ends_turn T.origin T.story T.caller };
+    ghost then = { λ _ m _ n. n ≡ ended m };
 }
 
-// Gives a caller's number away.
+// The first seat gives a caller's number away.
 pub(crate) struct Deals;
 
 impl<E> Split<View<E>> for Deals {
-    ghost use Rattle.turn_lock.specs.Turns.{dealt, newcomer};
+    ghost use Rattle.turn_lock.specs.Seats.{dealt, newcomer};
 
     ghost left = { dealt };
 
     ghost right = { newcomer };
 }
 
-// Makes one seat speak for the callers of two.
+// Joins a seat into the first, which then speaks for the callers of both.
 pub(crate) struct Gathers;
 
 impl<E> Join<View<E>> for Gathers {
-    ghost use Rattle.turn_lock.specs.Turns.{both, spent};
+    ghost use Rattle.turn_lock.specs.Seats.{both, spent};
 
     ghost both = { both };
 
@@ -92,7 +105,7 @@ impl<E> Join<View<E>> for Gathers {
 // Exchanges busy from 0 to 1. True where the seat is at turn now: it has taken the slot.
 pub(crate) fn begin<T: Storied>(steps: &Steps<T>, seat: &mut Place<T>) -> bool
     requires table { IsSeatOf steps.now.table_id seat.old }
-    requires rests { IsAtRest seat.old.me }
+    requires rests { MayTurn seat.old.me }
     ensures seat { IsSameSeat seat.old seat.new }
     ensures begins { MatchBool result ((x : T) × Took T.origin T.story T.caller seat.old.me x seat.new.me) (seat.new.me ≡ seat.old.me) }
 {
@@ -102,7 +115,7 @@ pub(crate) fn begin<T: Storied>(steps: &Steps<T>, seat: &mut Place<T>) -> bool
 // Begins a turn where the lock is free, or becomes free soon.
 fn begin_soon<T: Storied>(steps: &Steps<T>, seat: &mut Place<T>) -> bool
     requires table { IsSeatOf steps.now.table_id seat.old }
-    requires rests { IsAtRest seat.old.me }
+    requires rests { MayTurn seat.old.me }
     ensures seat { IsSameSeat seat.old seat.new }
     ensures begins { MatchBool result ((x : T) × Took T.origin T.story T.caller seat.old.me x seat.new.me) (seat.new.me ≡ seat.old.me) }
 {
@@ -118,7 +131,7 @@ fn begin_soon<T: Storied>(steps: &Steps<T>, seat: &mut Place<T>) -> bool
 // Sleeps while the lock is busy, until a turn begins.
 fn begin_late<T: Storied, R: Wait>(rt: &R, steps: &Steps<T>, seat: &mut Place<T>)
     requires table { IsSeatOf steps.now.table_id seat.old }
-    requires rests { IsAtRest seat.old.me }
+    requires rests { MayTurn seat.old.me }
     ensures seat { IsSameSeat seat.old seat.new }
     ensures begins { (x : T) × Took T.origin T.story T.caller seat.old.me x seat.new.me }
 {
@@ -139,7 +152,7 @@ pub(crate) fn wait_begin<T: Storied, R: Wait>(
     seat: &mut Place<T>,
 )
     requires table { IsSeatOf steps.now.table_id seat.old }
-    requires rests { IsAtRest seat.old.me }
+    requires rests { MayTurn seat.old.me }
     ensures seat { IsSameSeat seat.old seat.new }
     ensures begins { (x : T) × Took T.origin T.story T.caller seat.old.me x seat.new.me }
 {
@@ -165,7 +178,23 @@ pub(crate) fn take_out<T: Storied>(steps: &Steps<T>, seat: &mut Place<T>) -> T
     value
 }
 
-// Exchanges the value back into it.
+// Adds the number of new entries to the count, while the value is out. From now on they stand in the one story.
+pub(crate) fn count<T: Storied, J: Added<T::Entry>>(
+    steps: &Steps<T>,
+    seat: &mut Place<T>,
+    value: &T,
+    new: u64,
+)
+    requires table { IsSeatOf steps.now.table_id seat.old }
+    requires brings { Brings T.origin T.story T.caller value.now J.added seat.old.me new }
+    ensures seat { IsSameSeat seat.old seat.new }
+    ensures counted { seat.new.me ≡ grown J.added seat.old.me }
+{
+    let _ = value;
+    steps.fetch_add::<Counts<J>>(seat, COUNT, new);
+}
+
+// Exchanges the value back into its slot.
 pub(crate) fn put_back<T: Storied>(steps: &Steps<T>, seat: &mut Place<T>, value: T)
     requires table { IsSeatOf steps.now.table_id seat.old }
     requires empty { seat.old.me.1 ≡ (0, None) ∷ [] }
@@ -177,22 +206,12 @@ pub(crate) fn put_back<T: Storied>(steps: &Steps<T>, seat: &mut Place<T>, value:
     };
 }
 
-// Adds the number of new entries to the count. From now on they stand in the one story.
-pub(crate) fn count<T: Storied>(steps: &Steps<T>, seat: &mut Place<T>, new: u64)
-    requires table { IsSeatOf steps.now.table_id seat.old }
-    requires brings { Brings T.origin T.story T.caller seat.old.me new }
-    ensures seat { IsSameSeat seat.old seat.new }
-    ensures counted { (x : T) → seat.old.me.1 ≡ (0, Some x) ∷ [] → (c : ℕ) (made : List T.Entry) → seat.old.me.0.callers ≡ (c, made) ∷ [] → seat.new.me ≡ (view Turns ((c, made ++ after seat.old.me.0.seen (T.story x)) ∷ []) seat.old.me.0.origin (T.story x) seat.old.me.0.heard, seat.old.me.1) }
-{
-    steps.fetch_add::<Counts>(seat, COUNT, new);
-}
-
 // Swaps busy to 0: the slot is given back, and the turn is over.
 pub(crate) fn end<T: Storied>(steps: &Steps<T>, seat: &mut Place<T>)
     requires table { IsSeatOf steps.now.table_id seat.old }
-    requires counted { Counted T.origin T.story T.caller seat.old.me }
+    requires back { IsBack T.origin T.story T.caller seat.old.me }
     ensures seat { IsSameSeat seat.old seat.new }
-    ensures ends { seat.new.me ≡ (view Rests seat.old.me.0.callers seat.old.me.0.origin seat.old.me.0.seen seat.old.me.0.heard, []) }
+    ensures ends { seat.new.me ≡ ended seat.old.me }
 {
     steps.swap::<Ends>(seat, BUSY, 0);
 }

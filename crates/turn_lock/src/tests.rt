@@ -8,8 +8,10 @@ use crate::{MadeLock, Pass, TurnLock};
 use mix_base::Storied;
 use std::alloc::Global;
 use std::sync::Wait;
+use std::sync::atomic::AtomicU64;
+use std::sync::atomic::Ordering::SeqCst;
 use std::test::Fail;
-use std::thread::{Threads, join};
+use std::thread::{Threads, join, yield_now};
 
 const ROUNDS: u32 = 1000;
 
@@ -212,5 +214,97 @@ fn four_threads_leave_several_entries_a_turn(rt: HostRuntime) -> Result<(), Fail
     assert_eq!(rt; book.callers.len(), 10_000);
     assert_eq!(rt; (book.count(0), book.count(1)), (3000, 2000));
     assert_eq!(rt; (book.count(2), book.count(3)), (1000, 4000));
+    Ok(())
+}
+
+// Waits until a taker says that it may sleep, and then long enough that it does.
+fn wait_sleeper<R: Wait>(rt: &R, lock: &TurnLock<Book>) {
+    for _ in rt.forever() {
+        if lock.sleepers.load(SeqCst) > 0 {
+            break;
+        }
+        yield_now();
+    }
+    for _ in 0..10_000 {
+        yield_now();
+    }
+}
+
+// Takes the value, and gives it back once another taker sleeps.
+fn hold<R: Wait>(
+    rt: &R,
+    lock: &TurnLock<Book>,
+    mut pass: Pass<Book>,
+    held: &AtomicU64,
+) -> Pass<Book>
+    requires { IsIdle lock.now 0 pass }
+    ensures { IsIdle lock.now 0 result }
+{
+    let mut book = lock.take(rt, &mut pass);
+    held.store(1, SeqCst);
+    wait_sleeper(rt, lock);
+    book.add(0, &[0]);
+    lock.give(&mut pass, book);
+    pass
+}
+
+// Takes the value once another has it.
+fn follow<R: Wait>(
+    rt: &R,
+    lock: &TurnLock<Book>,
+    mut pass: Pass<Book>,
+    held: &AtomicU64,
+) -> Pass<Book>
+    requires { IsIdle lock.now 1 pass }
+    ensures { IsIdle lock.now 1 result }
+{
+    for _ in rt.forever() {
+        if held.load(SeqCst) > 0 {
+            break;
+        }
+        yield_now();
+    }
+    turn(rt, lock, &mut pass, 1, &[1]);
+    pass
+}
+
+// One taker sleeps while the other has the value.
+fn sleep_once<R: Threads + Wait + Sync>(
+    rt: &R,
+    lock: &TurnLock<Book>,
+    a: Pass<Book>,
+    b: Pass<Book>,
+) -> (Pass<Book>, Pass<Book>)
+    requires first { IsIdle lock.now 0 a }
+    requires second { IsIdle lock.now 1 b }
+    ensures first { IsIdle lock.now 0 result.0 }
+    ensures second { IsIdle lock.now 1 result.1 }
+{
+    let held = AtomicU64::new(0);
+    let is_held = &held;
+    join(
+        rt,
+        move || -> Pass<Book>
+            requires { IsIdle lock.now 0 a }
+            ensures { IsIdle lock.entry.now 0 result }
+        { hold(rt, lock, a, is_held) },
+        move || -> Pass<Book>
+            requires { IsIdle lock.now 1 b }
+            ensures { IsIdle lock.entry.now 1 result }
+        { follow(rt, lock, b, is_held) },
+    )
+}
+
+// A giver that doesn't wake its one sleeper lets this test run out of time.
+#[test]
+fn a_taker_that_sleeps_is_woken(rt: HostRuntime) -> Result<(), Fail> {
+    for _ in 0..20 {
+        let MadeLock { lock, mut passes } = opened(rt.alloc(), 2)?;
+        let b = last(&lock, &mut passes, 1)?;
+        let a = last(&lock, &mut passes, 0)?;
+        let (a, b) = sleep_once(&rt, &lock, a, b);
+        let book = closed(lock, vec![in rt.alloc(); a, b]?);
+        assert_eq!(rt; book.callers.as_slice(), [0, 1].as_slice());
+    }
     Ok(())
 }

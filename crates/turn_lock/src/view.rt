@@ -4,14 +4,14 @@ use std::collections::LinkedList;
 pub(crate) enum Role {
     // It knows nothing any more: another seat took its view in.
     Spent,
-    // It gives the callers' numbers away, and this is the next one.
-    Deals(u64),
     Rests,
     Turns,
 }
 
 pub(crate) struct View<E> {
     pub(crate) role: Role,
+    // Of the first seat alone: the least caller's number that isn't given away yet.
+    pub(crate) next: Option<u64>,
     pub(crate) callers: LinkedList<(u64, LinkedList<E>)>,
     pub(crate) origin: LinkedList<LinkedList<u64>>,
     pub(crate) seen: LinkedList<E>,

@@ -1,14 +1,15 @@
-// Packets of one hop in the laboratory suite, for up to five hops and a body of 64 bytes. They are made by the
-// rules for making, and not by undoing what a node does.
+// Packets of one hop in the laboratory suite, for up to five hops. They are made by the rules for making, and not by
+// undoing what a node does.
 use mix_base::{Kdf, Kem, Mac, Stream, Wide, Words};
 use prim_std::{ChaCha, ChaWords, HmacMac, LabKem, LabelKdf, Lioness, hmac_sha256, sha256};
 use std::alloc::{AllocError, Global};
 use std::test::Fail;
 
-/// The public key of epoch 0 at the node whose seed is all zeros.
-fn public_key(alloc: Global) -> [u8; 32] {
+/// The public key of an epoch at the node whose seed is all zeros.
+fn public_key(alloc: Global, epoch: u64) -> [u8; 32] {
     let mut label = [0; 17];
     label[..9].copy_from_slice(b"mix-epoch");
+    label[9..].copy_from_slice(&epoch.to_be_bytes());
     let mut words = ChaWords::new(&hmac_sha256(&[0; 32], &label));
     let mut public = [0; 32];
     let mut secret = [0; 32];
@@ -75,44 +76,56 @@ pub fn payload() -> [u8; 940] {
     payload
 }
 
-/// The secret of a packet with this seed, and its ciphertext.
-fn shared(alloc: Global, seed: &[u8; 32]) -> ([u8; 32], [u8; 48]) {
+/// The secret of a packet with this seed for that node in an epoch, and its ciphertext.
+fn shared(alloc: Global, seed: &[u8; 32], epoch: u64) -> ([u8; 32], [u8; 48]) {
     let mut ciphertext = [0; 48];
     let mut secret = [0; 32];
-    let public = public_key(alloc);
+    let public = public_key(alloc, epoch);
     let _ = LabKem::encap(alloc, &public, &coins(seed), &mut ciphertext, &mut secret);
     (secret, ciphertext)
 }
 
-/// The packet with this seed for that node in epoch 0, with these commands.
+/// The packet with this seed for that node in epoch 0, with these commands and a body of 64 bytes 41.
 pub fn packet(alloc: Global, seed: &[u8; 32], commands: &[u8; 72]) -> Result<Vec<u8>, AllocError> {
-    let (secret, ciphertext) = shared(alloc, seed);
+    packet_in(alloc, seed, 0, commands, &[0x41; 64])
+}
+
+/// The packet with this seed for that node in an epoch, with these commands and this body.
+pub fn packet_in(
+    alloc: Global,
+    seed: &[u8; 32],
+    epoch: u64,
+    commands: &[u8; 72],
+    body: &[u8],
+) -> Result<Vec<u8>, AllocError> {
+    let (secret, ciphertext) = shared(alloc, seed, epoch);
     let keys = LabelKdf::expand(&secret);
     let mut routing = [0; 600];
     routing[48..120].copy_from_slice(commands);
     ChaCha::xor(&keys.stream, &mut routing);
-    let mut packet = Vec::with_capacity(alloc, 1622)?;
+    let mut packet = Vec::new(alloc);
     packet.extend_from_slice(&[0, 0])?;
     packet.extend_from_slice(&ciphertext)?;
     packet.extend_from_slice(&routing)?;
     let code = HmacMac::tag(&keys.mac, &packet);
     packet.extend_from_slice(&code)?;
-    let mut payload = payload();
+    let mut payload = vec![in alloc; 0; 876]?;
+    payload.extend_from_slice(body)?;
     Lioness::encrypt(&keys.wide, &mut payload);
     packet.extend_from_slice(&payload)?;
     Ok(packet)
 }
 
-/// The replay tag of the packets with this seed.
-pub fn tag(alloc: Global, seed: &[u8; 32]) -> [u8; 32] {
-    let (_, ciphertext) = shared(alloc, seed);
+/// The replay tag of the packets with this seed for an epoch.
+pub fn tag(alloc: Global, seed: &[u8; 32], epoch: u64) -> [u8; 32] {
+    let (_, ciphertext) = shared(alloc, seed, epoch);
     sha256(&ciphertext)
 }
 
 /// What a packet with this seed to the next hop is there: its slot of zeros and commands is gone, zeros and the end
 /// of the key stream are behind, and the payload is bare.
 pub fn forwarded(alloc: Global, seed: &[u8; 32]) -> Result<Vec<u8>, AllocError> {
-    let (secret, _) = shared(alloc, seed);
+    let (secret, _) = shared(alloc, seed, 0);
     let mut stream = [0; 720];
     ChaCha::xor(&LabelKdf::expand(&secret).stream, &mut stream);
     let mut packet = Vec::with_capacity(alloc, 1622)?;

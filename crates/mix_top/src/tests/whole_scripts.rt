@@ -1,7 +1,7 @@
 // Whole scripts, and the reports and statuses that they are owed.
 use super::packets::{
-    forwarded, packet, payload, tag, to_maker, to_next_hop, to_recipient, to_recipient_after,
-    to_recipient_and_more,
+    forwarded, packet, packet_in, payload, tag, to_maker, to_next_hop, to_recipient,
+    to_recipient_after, to_recipient_and_more,
 };
 use crate::mix_command;
 use lab_text::Status;
@@ -50,7 +50,7 @@ fn commanded(alloc: Global, commands: &[u8; 72]) -> Result<String, AllocError> {
 
 /// Epoch, tag and recipient or next hop of the packets with this seed, as the report hands them on.
 fn head(alloc: Global, seed: u8) -> Result<String, AllocError> {
-    let tag = hex::encode(alloc, &tag(alloc, &[seed; 32]))?;
+    let tag = hex::encode(alloc, &tag(alloc, &[seed; 32], 0))?;
     let id = hex::encode(alloc, &[0x22; 32])?;
     format!(in alloc; "0 {tag} {id}")
 }
@@ -77,20 +77,36 @@ fn other_delivered(alloc: Global) -> Result<String, AllocError> {
     format!(in alloc; "{head} {body} -")
 }
 
+/// The packet for the recipient in an epoch.
+fn to_deliver_in(alloc: Global, epoch: u64) -> Result<String, AllocError> {
+    let packet = packet_in(alloc, &[1; 32], epoch, &to_recipient(), &[0x41; 64])?;
+    hex::encode(alloc, &packet)
+}
+
+/// How the report hands on the packet of epoch 10.
+fn later_delivered(alloc: Global) -> Result<String, AllocError> {
+    let tag = hex::encode(alloc, &tag(alloc, &[1; 32], 10))?;
+    let id = hex::encode(alloc, &[0x22; 32])?;
+    let body = hex::encode(alloc, &[0x41; 64])?;
+    format!(in alloc; "10 {tag} {id} {body} -")
+}
+
 /// What a capital letter of a report stands for, behind the number of the arrival: D the packet, E the one with the
-/// other seed, G what goes to the next hop, Y what goes to the maker of a reply block.
+/// other seed, V that of epoch 10, G what goes to the next hop, Y what goes to the maker of a reply block.
 fn handed(alloc: Global, letter: u8) -> Result<String, AllocError> {
     match letter {
         b'D' => String::from_str(alloc, DELIVERED),
         b'E' => other_delivered(alloc),
+        b'V' => later_delivered(alloc),
         b'G' => at_next_hop(alloc),
         _ => at_maker(alloc),
     }
 }
 
 /// What a capital letter of a script stands for: N the node's line, P the packet, Q one with another seed, S it
-/// without its last byte, L and M it with its last byte or the last byte of its code changed; and by its commands W
-/// after 500 milliseconds, X with a byte behind them, F to a next hop, R for the maker of a reply block.
+/// without its last byte, L and M it with its last byte or the last byte of its code changed; O and T those of epochs 9
+/// and 10; and by its commands W after 500 milliseconds, X with a byte behind them, F to a next hop, R for the maker of a
+/// reply block.
 fn meant(alloc: Global, letter: u8) -> Result<String, AllocError> {
     match letter {
         b'N' => String::from_str(alloc, NODE),
@@ -99,6 +115,8 @@ fn meant(alloc: Global, letter: u8) -> Result<String, AllocError> {
         b'S' => hex::encode(alloc, &shorter(alloc)?),
         b'L' => hex::encode(alloc, &changed(alloc, 1621)?),
         b'M' => hex::encode(alloc, &changed(alloc, 681)?),
+        b'O' => to_deliver_in(alloc, 9),
+        b'T' => to_deliver_in(alloc, 10),
         b'W' => commanded(alloc, &to_recipient_after(500)),
         b'X' => commanded(alloc, &to_recipient_and_more()),
         b'F' => commanded(alloc, &to_next_hop()),
@@ -194,6 +212,12 @@ fn refused_packets(rt: HostRuntime) -> Result<(), Fail> {
                 "N\nrecv 1000 S\npeel 0\n",
                 Status::Done,
                 "refuse 1 length\n",
+            ),
+            (
+                "a packet of an epoch below the floor, which the claim of a later one raised",
+                "N\nrecv 12119999 O\npeel 0\nrecv 12120000 T\npeel 1\nclaim 1\nclaim 0\nsend 12120000\n",
+                Status::Done,
+                "refuse 1 retired 10\ndeliver 2 V\n",
             ),
             (
                 "a changed code, and then the packet itself",

@@ -1,9 +1,9 @@
 // Nodes, paths and coins of the laboratory suite, and packets that go from node to node.
-ghost use Rattle.std.specs.Prelude.{◌≡◌, IfOk};
+ghost use Rattle.std.specs.Prelude.{◌≡◌, ◌*◌, length, vec_len, IfOk};
 
 use crate::{BlockKeys, MadeBlock, OpenFault, make_block, open_reply};
 use hex::FromHex;
-use mix_base::{Bytes, Words};
+use mix_base::{Bytes, draw, next_words, write_words};
 use packet_form::Geometry;
 use prim_std::{ChaWords, LabSuite, sha256};
 use sphinx_make::HopSpec;
@@ -57,23 +57,20 @@ pub fn path_over(
     Ok(path)
 }
 
-/// The next words, eight for each of so many hops.
-pub fn coins(alloc: Global, words: &mut ChaWords, hops: usize) -> Result<Vec<u32>, AllocError> {
-    let mut coins = Vec::new(alloc);
-    for _ in 0..hops {
-        for _ in 0..8 {
-            coins.push(words.next())?;
-        }
-    }
-    Ok(coins)
+/// The next words, eight for each hop of a path.
+pub fn coins(alloc: Global, words: &mut ChaWords, path: &[HopSpec]) -> Result<Vec<u32>, Fail>
+    ensures { IfOk result (λ coins. vec_len coins ≡ length path.now * 8) }
+{
+    let count = path.len().checked_mul(8).ok_or("too many hops")?;
+    Ok(next_words(alloc, words, count)?)
 }
 
 /// The next 32 words as bytes.
 fn own_key(words: &mut ChaWords) -> [u8; 128] {
+    let mut drawn = [0; 32];
+    draw(words, &mut drawn);
     let mut own = [0; 128];
-    for i in 0..32 {
-        own[4 * i..4 * i + 4].copy_from_slice(&words.next().to_le_bytes());
-    }
+    write_words(&drawn, &mut own);
     own
 }
 
@@ -89,11 +86,8 @@ pub fn block_for(
     requires { geo.now.ct ≡ 48 }
 {
     let mut words = ChaWords::new(seed);
-    let coins = coins(alloc, &mut words, path.len())?;
+    let coins = coins(alloc, &mut words, path)?;
     let own = own_key(&mut words);
-    if coins.len() % 8 != 0 || coins.len() / 8 != path.len() {
-        return Err(Fail::from("not eight coins for each hop"));
-    }
     Ok(make_block::<LabSuite>(alloc, geo, path, recipient, surb, &own, &coins)?)
 }
 

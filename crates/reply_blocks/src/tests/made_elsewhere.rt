@@ -1,8 +1,8 @@
-// A block, its answer and its reply, compared with those of an independent program; and answers that are refused.
+// A block, its answer and its reply, compared with those of an independent program.
 use super::fixtures::{
     Node, block_for, bytes_of, changed, expect_sum, found, geometry, leaving, path_over,
 };
-use crate::{AnswerFault, BlockKeys, OpenFault, answer};
+use crate::{BlockKeys, OpenFault, answer};
 use prim_std::LabSuite;
 use sphinx_unwrap::Out;
 use std::alloc::{AllocError, Global};
@@ -90,25 +90,5 @@ fn a_block_its_answer_and_its_reply_are_those_of_another_program(
     let other = changed(alloc, payload.as_slice(), 130)?;
     let refused = found(alloc, &geo, &made.keys, &other)?.err();
     assert_eq!(rt; refused, Some(OpenFault::Damaged));
-    Ok(())
-}
-
-#[test]
-fn a_block_is_judged_before_the_body(rt: HostRuntime) -> Result<(), Fail> {
-    let rows = [
-        (841, 64, Some(AnswerFault::BlockLength)),
-        (843, 64, Some(AnswerFault::BlockLength)),
-        (841, 63, Some(AnswerFault::BlockLength)),
-        (842, 63, Some(AnswerFault::BodyLength)),
-        (842, 65, Some(AnswerFault::BodyLength)),
-        (842, 64, None),
-    ];
-    let geo = geometry(5, 64)?;
-    for (block, body, fault) in rows {
-        let block = vec![in rt.alloc(); 7; block]?;
-        let body = vec![in rt.alloc(); 8; body]?;
-        let answered = answer::<LabSuite>(rt.alloc(), &geo, &block, &body);
-        assert_eq!(rt; answered.err(), fault);
-    }
     Ok(())
 }

@@ -46,10 +46,7 @@ fn nodes() -> Result<[Node; 3], Fail> {
 fn message(alloc: Global, geo: &Geometry, path: &[HopSpec], block: &[u8]) -> Result<Vec<u8>, Fail>
     requires { geo.now.ct ≡ 48 }
 {
-    let coins = coins(alloc, &mut ChaWords::new(&[5; 32]), path.len())?;
-    if coins.len() % 8 != 0 || coins.len() / 8 != path.len() {
-        return Err(Fail::from("not eight coins for each hop"));
-    }
+    let coins = coins(alloc, &mut ChaWords::new(&[5; 32]), path)?;
     Ok(make_packet::<LabSuite>(alloc, geo, path, &RECIPIENT, &BODY, Some(block), &coins)?)
 }
 

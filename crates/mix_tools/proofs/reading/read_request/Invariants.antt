@@ -1,5 +1,5 @@
-use Rattle.std.proofs.Common.{◌≡◌, ◌+◌, ◌-◌, ◌^◌, ◌≤◌, Some, IfSome, IsSome}
-use Rattle.lab_text.specs.Readers.{source_of, number_of}
+use Rattle.std.proofs.Common.{◌≡◌, ◌+◌, ◌-◌, ◌^◌, Some, IfSome}
+use Rattle.lab_text.specs.Readers.{SourceGoesOn, lines_given}
 use Rattle.mix_tools.specs.Reading.{request_to_come}
 use Rattle.mix_tools.specs.Drafts.{IsDraftInRange}
 use Rattle.mix_tools.proofs.reading.read_request.Given as goal
@@ -9,10 +9,8 @@ abbrev pub invariant-lines : goal.invariant-lines
 invariant-lines g l = record {
   same : IfSome (request_to_come l.initial.reader l.initial.draft) (λ outcome. request_to_come l.reader l.draft ≡ Some outcome);
   in_range : IsDraftInRange l.draft;
-  tells : IfSome (g.I.Source.left (source_of l.initial.reader)) (λ _. IsSome (g.I.Source.left (source_of l.reader)));
-  faults : g.I.Source.faults (source_of l.initial.reader) ≤ g.I.Source.faults (source_of l.reader);
-  reference : g.I.Source.reference (source_of l.reader) ≡ g.I.Source.reference (source_of l.initial.reader);
+  source : SourceGoesOn l.initial.reader l.reader;
 }
 
 abbrev pub decreases-lines : goal.decreases-lines
-decreases-lines g l = 2 ^ 30 + 1 - number_of l.reader
+decreases-lines g l = 2 ^ 30 + 1 - lines_given l.reader

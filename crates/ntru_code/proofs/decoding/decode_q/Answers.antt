@@ -12,4 +12,4 @@ pub returns-clause-found : goal.returns-clause-found
 returns-clause-found c = found whole c.args.bytes.now whole_is_sound c.requires (λ k. omega (arith, c.type_inv.bytes k)) c.decode.result c.decode.ensures.value c.decode.ensures.in_range
 
 pub returns-clause-only : goal.returns-clause-only
-returns-clause-only c = λ p polynomial spelled. only whole c.args.bytes.now p whole_is_sound (whole_can_spell p polynomial) spelled c.decode.result c.decode.ensures.value c.decode.ensures.first
+returns-clause-only c = λ p polynomial. only whole c.args.bytes.now p whole_is_sound (whole_can_spell p polynomial) c.decode.result c.decode.ensures.value c.decode.ensures.first

@@ -12,7 +12,7 @@ pub returns-clause-found : goal.returns-clause-found
 returns-clause-found c = found rounded c.args.bytes.now rounded_is_sound c.requires (λ k. omega (arith, c.type_inv.bytes k)) c.decode.result c.decode.ensures.value c.decode.ensures.in_range
 
 pub returns-clause-only : goal.returns-clause-only
-returns-clause-only c = λ p polynomial multiples spelled. only rounded c.args.bytes.now p rounded_is_sound (rounded_can_spell p polynomial multiples) spelled c.decode.result c.decode.ensures.value c.decode.ensures.first
+returns-clause-only c = λ p polynomial multiples. only rounded c.args.bytes.now p rounded_is_sound (rounded_can_spell p polynomial multiples) c.decode.result c.decode.ensures.value c.decode.ensures.first
 
 pub returns-clause-multiples : goal.returns-clause-multiples
 returns-clause-multiples c = multiples_read c.args.bytes.now c.decode.result c.decode.ensures.value

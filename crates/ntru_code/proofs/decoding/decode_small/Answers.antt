@@ -18,11 +18,11 @@ returns-in_err-polynomial-clause-only c =
 pub returns-clause-found : goal.returns-clause-found
 returns-clause-found c =
     let value : c.in_ok-small.small ≡ values small c.args.bytes.now =
-    c.in_ok-small.ensures ∙ ap reduced c.in_ok-polynomial.ensures.value ∙ small_reduced c.args.bytes.now c.in_ok-polynomial.ensures.in_range in
+    c.in_ok-small.ensures.value ∙ ap reduced c.in_ok-polynomial.ensures.value ∙ small_reduced c.args.bytes.now c.in_ok-polynomial.ensures.in_range in
     subst (λ q. c.args.bytes.now ≡ spelling small q) (sym value) (found_is_spelled small c.args.bytes.now small_is_sound c.requires (λ k. omega (arith, c.type_inv.bytes k)) c.in_ok-polynomial.ensures.in_range)
 
 pub returns-clause-only : goal.returns-clause-only
 returns-clause-only c =
     let value : c.in_ok-small.small ≡ values small c.args.bytes.now =
-    c.in_ok-small.ensures ∙ ap reduced c.in_ok-polynomial.ensures.value ∙ small_reduced c.args.bytes.now c.in_ok-polynomial.ensures.in_range in
+    c.in_ok-small.ensures.value ∙ ap reduced c.in_ok-polynomial.ensures.value ∙ small_reduced c.args.bytes.now c.in_ok-polynomial.ensures.in_range in
     λ p polynomial spelled. value ∙ values_are small c.args.bytes.now p small_is_sound (small_can_spell p polynomial) spelled

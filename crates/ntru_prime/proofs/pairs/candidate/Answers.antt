@@ -18,6 +18,6 @@ returns-in_err-g_inverse-clause-divisor c =
 pub returns-in_err-f_inverse-clause-divisor : goal.returns-in_err-f_inverse-clause-divisor
 returns-in_err-f_inverse-clause-divisor c =
     let e = err_from_is_err_and c.from_residual-in_err-f_inverse.result c.from_residual-in_err-f_inverse.ensures.1 in
-    let f = c.in_ok-triple.ensures ∙ ap tripled (c.in_ok-lift.ensures ∙ c.in_ok-f.ensures.value ∙ ap weight_polynomial c.split_at.ensures.back) in
+    let f = c.in_ok-triple.ensures.value ∙ ap tripled (c.in_ok-lift.ensures ∙ c.in_ok-f.ensures.value ∙ ap weight_polynomial c.split_at.ensures.back) in
     rw (e.1, e.2)
     (OnRefused-weaker (List ℤ) SecretKey c.in_err-f_inverse.field-0.0 (λ (divisor : (v : List ℤ) × IsDivisor 4591 c.in_ok-triple.field-0 v). inr (divisor.0, subst (λ (p : List ℤ). IsDivisor 4591 p divisor.0) f divisor.1)) c.in_err-f_inverse.ensures.divisor)

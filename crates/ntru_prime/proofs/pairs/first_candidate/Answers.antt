@@ -1,7 +1,7 @@
 -- Each candidate has its 1,522 words, and the words to come are those behind them.
 use Rattle.std.proofs.Common.{◌≡◌, ℕ, List, subst, ◌+◌, ◌*◌, ◌∙◌, ◌++◌, drop, length, sym, ap, arith, below_more, None}
 use Rattle.std.proofs.lemmas.List.{length-append, length-take}
-use Rattle.prim_std.specs.Primitives.{first_words}
+use Rattle.mix_base.specs.WordStreams.{first_words}
 use Rattle.ntru_prime.specs.Pairs.{HasDivisor, IsKeyOf}
 use Rattle.ntru_prime.specs.Scheme.{candidate, candidate_words, first_candidate}
 use Rattle.ntru_prime.proofs.Candidates.{candidate_words-drawn, first_value-found, first_value-none, moved_further, moved_on}

@@ -1,5 +1,5 @@
 use Rattle.std.proofs.Common.{ℕ, List, ap, ◌∙◌, subst}
-use Rattle.prim_std.specs.Primitives.{first_words}
+use Rattle.mix_base.specs.WordStreams.{first_words}
 use Rattle.ntru_prime.specs.Answers.{OnRefused}
 use Rattle.ntru_prime.specs.Pairs.{HasDivisor}
 use Rattle.ntru_prime.proofs.pairs.next_candidate.Goals as goal

@@ -8,4 +8,4 @@ returns-in_err-polynomial c =
     rw (e.1, e.2) (rounded_refused c.args.bytes.now _ c.in_err-polynomial.ensures.first)
 
 pub returns : goal.returns
-returns c = rounded_read c.args.bytes.now c.in_ok-polynomial.polynomial c.at.ensures.in_range c.in_ok-polynomial.ensures.multiples c.in_ok-polynomial.ensures.found c.in_ok-polynomial.ensures.in_range
+returns c = rounded_read c.args.bytes.now c.in_ok-polynomial.polynomial c.known_in_range.ensures.in_range c.in_ok-polynomial.ensures.multiples c.in_ok-polynomial.ensures.found c.in_ok-polynomial.ensures.in_range

@@ -1,4 +1,4 @@
-use Rattle.packet_form.specs.CommandLaws.{spelled_if_read, none_if_not_read}
+use Rattle.packet_form.proofs.CommandLaws.{spelled_if_read, none_if_not_read}
 use Rattle.packet_form.proofs.commands.read_cmds.Goals as goal
 
 pub returns-clause-spelled : goal.returns-clause-spelled

@@ -1,6 +1,6 @@
 use Rattle.std.proofs.Common.{◌≡◌, ◌∙◌, ap, sym}
 use Rattle.packet_form.specs.Commands.{delay_part, read, spell}
-use Rattle.packet_form.specs.CommandLaws.{read-spell}
+use Rattle.packet_form.proofs.CommandLaws.{read-spell}
 use Rattle.packet_form.proofs.commands.write_cmds.Goals as goal
 
 pub returns-clause-read_back : goal.returns-clause-read_back

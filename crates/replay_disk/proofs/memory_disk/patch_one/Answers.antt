@@ -1,5 +1,5 @@
 use Rattle.std.proofs.Common.{◌≡◌, arith, length, ap}
-use Rattle.replay_disk.specs.MemoryRack.{write_at}
+use Rattle.replay_disk.specs.Kept.{write_at}
 use Rattle.replay_disk.proofs.Pending.{ends_at}
 use Rattle.replay_disk.proofs.memory_disk.patch_one.Goals as goal
 

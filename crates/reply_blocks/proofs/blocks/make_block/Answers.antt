@@ -9,6 +9,7 @@ use Rattle.reply_blocks.proofs.Returning.{comes_back}
 use Rattle.reply_blocks.proofs.Undoing.{is_invertible}
 use Rattle.reply_blocks.proofs.blocks.make_block.Goals as goal
 
+-- The laws of a suite that may cross threads hold wherever a thread runs: here they are taken where the call stands.
 pub returns-clause-carries : goal.returns-clause-carries
 returns-clause-carries g c secrets payload agree long =
     let suite = g.S.Suite.meaning in
@@ -19,12 +20,14 @@ returns-clause-carries g c secrets payload agree long =
 
 pub returns-clause-comes_back : goal.returns-clause-comes_back
 returns-clause-comes_back g c secrets body agree long =
+    let suite_laws = g.met.S.Suite g.world.𝓛 g.world.𝓜 g.world.𝓡 ((λ s x. x), (λ x. x), (λ x. x), λ x. x) in
+    let wide_laws = g.met.S.W.Wide g.world.𝓛 g.world.𝓜 g.world.𝓡 ((λ s x. x), (λ x. x), (λ x. x), λ x. x) in
     let suite = g.S.Suite.meaning in
-    let laws = is_invertible suite _ g.met.S.Suite.made_of_parts (record {
-      decrypts = g.met.S.W.Wide.decrypts;
-      encrypts = g.met.S.W.Wide.encrypts;
-      encrypted_length = g.met.S.W.Wide.encrypted_length;
-      decrypted_length = g.met.S.W.Wide.decrypted_length;
+    let laws = is_invertible suite _ suite_laws.made_of_parts (record {
+      decrypts = wide_laws.decrypts;
+      encrypts = wide_laws.encrypts;
+      encrypted_length = wide_laws.encrypted_length;
+      decrypted_length = wide_laws.decrypted_length;
     }) in
     let block_long : length c.in_ok-block.block ≡ lengths.block c.args.geo.now = omega (arith, c.in_ok-block.ensures.length, c.in_ok-made.ensures.length) in
     comes_back suite c.args.geo.now c.args.path.now secrets c.args.recipient.now c.args.surb.now c.in_ok-block.block c.in_ok-made.made.header c.in-Some.first.now.id (keys_seen (record { hops = c.in_ok-made.made.wides; own = c.args.own.now })) body

@@ -1,20 +1,43 @@
-use Rattle.std.proofs.Common.{ap, ◌∙◌}
-use Rattle.reply_blocks.specs.Blocks.{keys_seen}
+use Rattle.std.proofs.Common.{◌≡◌, ℕ, List, Ok, Err, ap, ◌∙◌}
+use Rattle.reply_blocks.specs.Blocks.{Keys, keys_seen}
 use Rattle.reply_blocks.specs.Replies.{body_in, opened_reply}
-use Rattle.reply_blocks.proofs.Undoing.{gives_body, is_invertible, opened_reply-answer}
+use Rattle.reply_blocks.specs.declared.faults.OpenFault.TheVariants as faults
+use Rattle.reply_blocks.proofs.Undoing.{is_invertible, opened_reply-answer}
 use Rattle.reply_blocks.proofs.opening.open_reply.Goals as goal
+
+-- The laws of a suite that may cross threads hold wherever a thread runs: here they are taken where the call stands.
+pub returns-in_default-clause-honest : goal.returns-in_default-clause-honest
+returns-in_default-clause-honest g c body long is_answer =
+    let suite_laws = g.met.S.Suite g.world.𝓛 g.world.𝓜 g.world.𝓡 ((λ s x. x), (λ x. x), (λ x. x), λ x. x) in
+    let wide_laws = g.met.S.W.Wide g.world.𝓛 g.world.𝓜 g.world.𝓡 ((λ s x. x), (λ x. x), (λ x. x), λ x. x) in
+    let suite = g.S.Suite.meaning in
+    let sizes = c.args.geo.now in
+    let keys : Keys = keys_seen c.args.keys.now in
+    let laws = is_invertible suite _ suite_laws.made_of_parts (record {
+      decrypts = wide_laws.decrypts;
+      encrypts = wide_laws.encrypts;
+      encrypted_length = wide_laws.encrypted_length;
+      decrypted_length = wide_laws.decrypted_length;
+    }) in
+    let opens : body_in sizes c.in_ok-recovered.recovered.items ≡ Ok body =
+    ap (body_in sizes) c.in_ok-recovered.ensures.value ∙ ap (opened_reply suite sizes keys) is_answer ∙ opened_reply-answer suite sizes keys body laws in
+    let damaged : body_in sizes c.in_ok-recovered.recovered.items ≡ Err faults.Damaged = c.in_default.ensures.damaged in
+    cc
 
 pub returns-clause-honest : goal.returns-clause-honest
 returns-clause-honest g c body long is_answer =
+    let suite_laws = g.met.S.Suite g.world.𝓛 g.world.𝓜 g.world.𝓡 ((λ s x. x), (λ x. x), (λ x. x), λ x. x) in
+    let wide_laws = g.met.S.W.Wide g.world.𝓛 g.world.𝓜 g.world.𝓡 ((λ s x. x), (λ x. x), (λ x. x), λ x. x) in
     let suite = g.S.Suite.meaning in
     let sizes = c.args.geo.now in
-    let keys = keys_seen c.args.keys.now in
-    let laws = is_invertible suite _ g.met.S.Suite.made_of_parts (record {
-      decrypts = g.met.S.W.Wide.decrypts;
-      encrypts = g.met.S.W.Wide.encrypts;
-      encrypted_length = g.met.S.W.Wide.encrypted_length;
-      decrypted_length = g.met.S.W.Wide.decrypted_length;
+    let keys : Keys = keys_seen c.args.keys.now in
+    let laws = is_invertible suite _ suite_laws.made_of_parts (record {
+      decrypts = wide_laws.decrypts;
+      encrypts = wide_laws.encrypts;
+      encrypted_length = wide_laws.encrypted_length;
+      decrypted_length = wide_laws.decrypted_length;
     }) in
-    let recovered = c.deref.ensures.value ∙ c.in_ok-recovered.ensures.value in
-    gives_body (λ found. found.items) c.take_body.result (body_in sizes c.deref.result.now) body c.take_body.ensures.exact
-    (ap (body_in sizes) recovered ∙ ap (opened_reply suite sizes keys) is_answer ∙ opened_reply-answer suite sizes keys body laws)
+    let opens : body_in sizes c.in_ok-recovered.recovered.items ≡ Ok body =
+    ap (body_in sizes) c.in_ok-recovered.ensures.value ∙ ap (opened_reply suite sizes keys) is_answer ∙ opened_reply-answer suite sizes keys body laws in
+    let found : body_in sizes c.in_ok-recovered.recovered.items ≡ Ok c.in-Some.body.items = c.in-Some.ensures.body in
+    cc

@@ -8,7 +8,7 @@ use Rattle.spent_store.proofs.reading.read_logs.Goals as goal
 
 pub returns-clause-logs : goal.returns-clause-logs
 returns-clause-logs g c t =
-    let same = ap (λ (s : RackState). concat (records 32 (contents_of 2 s))) c.in_ok-one.ensures.ok in
+    let same = ap (λ (s : RackState). concat (records 32 (contents_of 2 s))) c.read_used.ensures.same in
     c.in_ok-logs.ensures
     ∙ cut_logs c.as_slice.result.now c.as_slice-2.result.now (contents_of 1 (g.R.Rack.state c.args.rack.now)) (contents_of 2 (g.R.Rack.state c.args.rack.now)) c.args.begun.now
     (λ used. c.as_slice.ensures ∙ c.in_ok-one.ensures.records t used) (λ used. c.as_slice-2.ensures ∙ c.in_ok-two.ensures.records t used ∙ same)

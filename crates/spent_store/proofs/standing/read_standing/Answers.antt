@@ -3,7 +3,7 @@ use Rattle.std.proofs.lemmas.List.{take_more, drop_more, length-take-le}
 use Rattle.spent_store.specs.Root.{is_amiss_at, first_amiss}
 use Rattle.spent_store.specs.declared.root.RootRecord.{RootRecord}
 use Rattle.spent_store.specs.declared.root.RootRecord.TheVariants.{Made}
-use Rattle.spent_store.specs.StandingLaws.{floor_read, begun_read, none_amiss_read}
+use Rattle.spent_store.proofs.StandingLaws.{floor_read, begun_read, none_amiss_read}
 use Rattle.spent_store.proofs.standing.read_standing.Goals as goal
 
 pub reading-preserved : goal.reading-preserved

@@ -4,6 +4,7 @@ use Rattle.sphinx_make.proofs.Layers.{encrypted_along-drop, encrypted_along-nil}
 use Rattle.sphinx_make.specs.Making.{encrypted_along}
 use Rattle.sphinx_make.proofs.payload.encrypt_along.Goals as goal
 
+-- The laws of a suite that may cross threads hold wherever a thread runs: here they are taken where the call stands.
 pub layers-init : goal.layers-init
 layers-init g c =
     let wides = c.args.wides.now in
@@ -11,6 +12,7 @@ layers-init g c =
 
 pub layers-preserved : goal.layers-preserved
 layers-preserved g c =
+    let suite_laws = g.met.S.Suite g.world.𝓛 g.world.𝓜 g.world.𝓡 ((λ s x. x), (λ x. x), (λ x. x), λ x. x) in
     let suite = g.S.Suite.meaning in
     let wides = c.args.wides.now in
     let payload = c.args.payload.now in
@@ -19,7 +21,7 @@ layers-preserved g c =
     let one_more : place + 1 ≡ c.layers.place = omega arith in
     let within : place < length wides = omega arith in
     let so_far : c.layers.payload ≡ encrypted_along suite (drop c.layers.place wides) payload = c.layers.invariant in
-    let made : c.encrypt.new.block ≡ suite.encrypt wide c.layers.payload = c.encrypt.ensures ∙ sym (ap (λ (m : SuiteMeaning). m.encrypt wide c.layers.payload) g.met.S.Suite.made_of_parts) in
+    let made : c.encrypt.new.block ≡ suite.encrypt wide c.layers.payload = c.encrypt.ensures ∙ sym (ap (λ (m : SuiteMeaning). m.encrypt wide c.layers.payload) suite_laws.made_of_parts) in
     let behind : suite.encrypt wide (encrypted_along suite (drop c.layers.place wides) payload) ≡ suite.encrypt wide (encrypted_along suite (drop (place + 1) wides) payload) =
     ap (λ n. suite.encrypt wide (encrypted_along suite (drop n wides) payload)) (sym one_more) in
     made ∙ ap (suite.encrypt wide) so_far ∙ behind ∙ sym (encrypted_along-drop suite wides place payload [] within)

@@ -1,5 +1,5 @@
 use Rattle.std.proofs.Common.{◌≡◌, length, rules}
-use Rattle.packet_form.specs.CommandLaws.{AreBytes, read_spelled}
+use Rattle.packet_form.proofs.CommandLaws.{AreBytes, read_spelled}
 use Rattle.packet_form.specs.declared.commands.Cmds.{Cmds}
 use Rattle.sphinx_make.proofs.routing.end_routing.Goals as goal
 

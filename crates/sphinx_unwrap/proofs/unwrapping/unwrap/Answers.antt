@@ -1,7 +1,8 @@
 use Rattle.std.proofs.Common.{refl, sym, subst}
 use Rattle.sphinx_unwrap.specs.Layer.{commands_of, payload_under, unhidden, unsealed}
 use Rattle.packet_form.specs.Commands.{read}
-use Rattle.sphinx_unwrap.specs.Outcome.{Leaves, layer_seen}
+use Rattle.sphinx_unwrap.specs.Buffers.{layer_seen}
+use Rattle.sphinx_unwrap.specs.Outcome.{Leaves}
 use Rattle.sphinx_unwrap.specs.declared.outcome.Opened.{Opened}
 use Rattle.sphinx_unwrap.specs.declared.outcome.Out.{Out}
 use Rattle.sphinx_unwrap.proofs.Leaving.{leaves, said_of, says_under}

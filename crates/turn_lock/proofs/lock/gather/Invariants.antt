@@ -1,6 +1,6 @@
 use Rattle.std.proofs.Common.{◌≡◌, List, ◌++◌}
 use Rattle.turn_lock.specs.Seen.{Caller}
-use Rattle.turn_lock.specs.Turns.{IsSeatOfAll}
+use Rattle.turn_lock.specs.Seats.{IsSeatOfAll}
 use Rattle.turn_lock.proofs.lock.gather.Given as goal
 
 abbrev pub invariant-loop-pass : goal.invariant-loop-pass

@@ -1,5 +1,5 @@
 use Rattle.std.proofs.Common.{◌≡◌}
-use Rattle.turn_lock.specs.Turns.{IsSameSeat}
+use Rattle.turn_lock.specs.Seats.{IsSameSeat}
 use Rattle.turn_lock.proofs.steps.begin_soon.Given as goal
 
 abbrev pub invariant-loop : goal.invariant-loop

@@ -1,5 +1,6 @@
 use Rattle.std.proofs.Common.{◌≡◌, List, [], ◌∷◌, ◌++◌, length, refl, ◌∙◌, ap, rules}
-use Rattle.replay_disk.specs.MemoryRack.{Write, Writes}
+use Rattle.replay_disk.specs.Kept.{Writes}
+use Rattle.replay_disk.specs.MemoryRack.{Write}
 use Rattle.replay_disk.proofs.Marks.{writes_of-push}
 use Rattle.replay_disk.proofs.write_log.WriteLog.push.Goals as goal
 

@@ -1,7 +1,8 @@
 use Rattle.std.proofs.Common.{◌≡◌, List, [], sym, ◌∙◌, ap, rules}
 use Rattle.std.proofs.lemmas.List.{nil_from_length}
 use Rattle.replay_disk.specs.declared.write_log.Mark.{Mark}
-use Rattle.replay_disk.specs.MemoryRack.{Writes, without_area}
+use Rattle.replay_disk.specs.Kept.{Writes}
+use Rattle.replay_disk.specs.MemoryRack.{without_area}
 use Rattle.replay_disk.specs.WriteLog.{writes_of}
 use Rattle.replay_disk.proofs.Marks.{writes_of-filter, AreMarked-filter}
 use Rattle.replay_disk.proofs.write_log.WriteLog.remove.Goals as goal

@@ -2,8 +2,8 @@ use Rattle.std.proofs.Common.{◌≡◌, ◌+◌, ◌==◌, ◌||◌, nat_le, na
 use Rattle.std.specs.List.{list_any}
 use Rattle.std.proofs.lemmas.Bool.{le-leb, lt-leb}
 use Rattle.spent_store.specs.Books.{has_begun}
-use Rattle.spent_store.specs.Changes.{claimed}
-use Rattle.spent_store.specs.ClaimLaws.{pair_count}
+use Rattle.spent_store.specs.Changes.{raised, begun_with}
+use Rattle.spent_store.proofs.ClaimLaws.{pair_count}
 use Rattle.spent_store.specs.Journals.{is_full}
 use Rattle.spent_store.specs.Stores.{StoreState}
 use Rattle.spent_store.specs.TagLogs.{TagLogState}
@@ -11,7 +11,7 @@ use Rattle.spent_store.proofs.StoreLogs.{any_epoch, pairs_summed, claimed_count,
 use Rattle.spent_store.proofs.store.SpentStore.is_full.Goals as goal
 
 pub returns-then-self-tags_in : goal.returns-then-self-tags_in
-returns-then-self-tags_in c tag =
+returns-then-self-tags_in c =
     let store = c.args.self.now in
     let count : c.tags_in.result ≡ pair_count c.args.epoch store.book.logs
     = c.tags_in.ensures.value
@@ -21,12 +21,12 @@ returns-then-self-tags_in c tag =
     let more = le-leb c.self.inside.limit c.tags_in.result c.if-self-tags_in.true in
     (λ i. nat_le c.self.inside.limit c.tags_in.result)
     ∙ more
-    ∙ (λ i. sym more i || nat_lt c.self.inside.limit (length (claimed c.args.epoch tag c.args.least store.book).roots))
-    ∙ full_by c.self.inside.limit c.args.epoch tag c.args.least store.book c.tags_in.result (length (claimed c.args.epoch tag c.args.least store.book).roots) count refl
-    ∙ ap (λ (n : ℕ). is_full n c.args.epoch tag c.args.least store.book) limit
+    ∙ (λ i. sym more i || nat_lt c.self.inside.limit (length (begun_with c.args.epoch (raised c.args.least store.book)).roots))
+    ∙ full_by c.self.inside.limit c.args.epoch c.args.least store.book c.tags_in.result (length (begun_with c.args.epoch (raised c.args.least store.book)).roots) count refl
+    ∙ ap (λ (n : ℕ). is_full n c.args.epoch c.args.least store.book) limit
 
 pub returns-else-self-tags_in : goal.returns-else-self-tags_in
-returns-else-self-tags_in c tag =
+returns-else-self-tags_in c =
     let store = c.args.self.now in
     let count : c.tags_in.result ≡ pair_count c.args.epoch store.book.logs
     = c.tags_in.ensures.value
@@ -41,8 +41,8 @@ returns-else-self-tags_in c tag =
     let roots : c.count.result ≡ length store.book.roots = c.count.ensures.count ∙ c.self.invariant.1.count ∙ ap (λ (s : StoreState). length s.book.roots) c.self.view_is in
     let needed : c.records_needed-needed.result ≡ (if nat_lt store.book.floor c.args.least then 1 else 0) + (if has_begun c.args.epoch store.book then 0 else 1)
     = c.records_needed-needed.ensures ∙ (λ i. (if nat_lt (floor i) c.args.least then 1 else 0) + (if has i then 0 else 1)) in
-    let total : c.count.result + c.records_needed-needed.result ≡ length (claimed c.args.epoch tag c.args.least store.book).roots
-    = (λ i. roots i + needed i) ∙ sym (claimed_count c.args.epoch tag c.args.least store.book c.requires.low) in
+    let total : c.count.result + c.records_needed-needed.result ≡ length (begun_with c.args.epoch (raised c.args.least store.book)).roots
+    = (λ i. roots i + needed i) ∙ sym (claimed_count c.args.epoch c.args.least store.book c.requires.low) in
     (λ i. sym less i || nat_lt c.self.inside.limit (c.count.result + c.records_needed-needed.result))
-    ∙ full_by c.self.inside.limit c.args.epoch tag c.args.least store.book c.tags_in.result (c.count.result + c.records_needed-needed.result) count total
-    ∙ ap (λ (n : ℕ). is_full n c.args.epoch tag c.args.least store.book) limit
+    ∙ full_by c.self.inside.limit c.args.epoch c.args.least store.book c.tags_in.result (c.count.result + c.records_needed-needed.result) count total
+    ∙ ap (λ (n : ℕ). is_full n c.args.epoch c.args.least store.book) limit

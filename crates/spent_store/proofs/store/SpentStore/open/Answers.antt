@@ -1,180 +1,140 @@
-use Rattle.std.proofs.Common.{◌≡◌, ℕ, true, List, length, map, Result, Ok, refl, sym, ◌∙◌, ap, subst, arith, rules}
-use Rattle.std.specs.List.{AllByRecursion}
-use Rattle.std.specs.Result.{IfErr, result_err}
-use Rattle.replay_disk.specs.Disk.{RackState}
-use Rattle.gate_log.specs.Log.{LogState}
-use Rattle.spent_store.specs.Answers.{Refuses}
-use Rattle.spent_store.specs.Books.{EpochLog, StoredBook}
+use Rattle.std.proofs.Common.{ℕ, [], ◌∷◌, Contains, Result, Ok, inl, sym, ◌∙◌, ap, rules}
+use Rattle.replay_disk.specs.Disk.{contents_of}
+use Rattle.replay_disk.proofs.Laws.{weaker}
+use Rattle.spent_store.specs.Books.{StoredBook}
 use Rattle.spent_store.specs.Changes.{made, made_where_read}
-use Rattle.spent_store.specs.Opening.{HasTags, Fits}
-use Rattle.spent_store.specs.Root.{AreNear}
-use Rattle.spent_store.specs.Stores.{StoreState, Stands, book_in}
-use Rattle.spent_store.specs.declared.objections.Objection.{Objection}
-use Rattle.spent_store.specs.Kept.{book_with}
-use Rattle.spent_store.proofs.JournalOpening.{journal_left, journal_opened}
-use Rattle.spent_store.proofs.OpeningBooks.{opens_unsynced}
-use Rattle.spent_store.proofs.OpeningLogs.{all_by}
-use Rattle.spent_store.proofs.StoreOpening.{read_synced, tags_read, tags_beside, made_some, made_count, with_made_count, book_is, from_read, from_made, from_root, from_logs, read_again, gate_rest, rest_kept, store_stands, near_logs}
+use Rattle.mix_base.specs.declared.shards.Shape.{Shape}
+use Rattle.replay_disk.specs.Moments.{AtEachMoment}
+use Rattle.spent_store.specs.Found.{NothingNew, Making, Rests}
+use Rattle.spent_store.specs.Root.{begun_of, roots_in}
+use Rattle.spent_store.specs.Stores.{StoreState, OpensFrom, OpensToOneOf, UnusedStay, as_read, book_in}
+use Rattle.spent_store.specs.declared.faults.Objection.{Objection}
+use Rattle.spent_store.proofs.BookLaws.{begun_said}
+use Rattle.spent_store.proofs.Finding.{from_nothing, as_asked, opens_all, unused_all, same_read, read_made, if_any, if_other}
+use Rattle.spent_store.proofs.JournalOpening.{journal_kept, journal_failed, journal_opened}
+use Rattle.spent_store.proofs.Stages.{standing}
 use Rattle.spent_store.proofs.store.SpentStore.open.Goals as goal
 
-pub returns-in_err-sync-clause-each_moment : goal.returns-in_err-sync-clause-each_moment
-returns-in_err-sync-clause-each_moment g c t =
-    opens_unsynced c.args.shape.now c.args.limit (g.R.Rack.state c.args.rack.now) (g.R.Rack.state c.sync.new.self) (c.in_err-sync.ensures.failed t) (c.sync.ensures.moment t)
+-- ---- it isn't opened, and nothing was written
 
-pub returns-in_err-known-clause-objection : goal.returns-in_err-known-clause-objection
-returns-in_err-known-clause-objection g c t =
-    let same = read_synced c.args.shape.now c.args.limit (g.R.Rack.state c.args.rack.now).areas (g.R.Rack.state c.sync.new.self).areas (c.in_ok-sync.ensures.synced t) in
-    subst (λ (read : Result StoredBook Objection). IfErr c.from_residual-in_err-known.result (λ fault. Refuses fault (result_err read))) same (search rules)
+pub returns-in_err-found-clause-unwritten : goal.returns-in_err-found-clause-unwritten
+returns-in_err-found-clause-unwritten g c t = if_other c.from_residual.result (c.read.ensures.unwritten t)
 
-pub returns-in_err-known-clause-each_moment : goal.returns-in_err-known-clause-each_moment
-returns-in_err-known-clause-each_moment g c t =
+pub returns-in_err-found-clause-reads : goal.returns-in_err-found-clause-reads
+returns-in_err-found-clause-reads g c t =
+    if_any c.from_residual.result (inl (same_read c.args.shape.now c.args.limit (g.R.Rack.state c.args.rack.now).areas (g.R.Rack.state c.read.new.rack).areas (c.read.ensures.unwritten t)))
+
+pub returns-in_err-found-clause-journal : goal.returns-in_err-found-clause-journal
+returns-in_err-found-clause-journal g c t books covers =
     let s0 = g.R.Rack.state c.args.rack.now in
-    let s1 = g.R.Rack.state c.sync.new.self in
-    let s2 = g.R.Rack.state c.read_book.new.rack in
-    let same = ap (λ (s : RackState). s.areas) c.read_book.ensures.same in
-    let past = ap (λ (s : RackState). s.past) c.read_book.ensures.same in
-    from_read c.args.shape.now c.args.limit s0 s1 s2 (c.sync.ensures.images t) (c.in_ok-sync.ensures.synced t) (c.sync.ensures.moment t) same past
+    journal_kept c.args.shape.now c.args.limit s0.areas (g.R.Rack.state c.read.new.rack).areas (c.read.ensures.images t) books covers c.from_residual.result (search rules) (search rules)
+    (begun_of (roots_in (contents_of 0 s0))) (c.read.ensures.each_moment t).now
 
-pub returns-in_err-roots-clause-each_moment : goal.returns-in_err-roots-clause-each_moment
-returns-in_err-roots-clause-each_moment g c t =
+pub returns-in_err-found-clause-each_moment : goal.returns-in_err-found-clause-each_moment
+returns-in_err-found-clause-each_moment g c t =
     let s0 = g.R.Rack.state c.args.rack.now in
-    let s1 = g.R.Rack.state c.sync.new.self in
-    let s2 = g.R.Rack.state c.read_book.new.rack in
-    let same = ap (λ (s : RackState). s.areas) c.read_book.ensures.same in
-    let past = ap (λ (s : RackState). s.past) c.read_book.ensures.same in
-    from_made c.args.shape.now c.args.limit s0 s1 s2 (c.sync.ensures.images t) (c.in_ok-sync.ensures.synced t) (c.sync.ensures.moment t) same past (g.R.Rack.state c.made_roots.new.rack) (c.made_roots.ensures.each_moment t)
+    let epochs = begun_of (roots_in (contents_of 0 s0)) in
+    weaker (NothingNew epochs s0.areas) (OpensFrom c.args.shape.now c.args.limit s0.areas) s0 (g.R.Rack.state c.read.new.rack) (λ now nothing. from_nothing c.args.shape.now c.args.limit epochs s0.areas now nothing) (c.read.ensures.each_moment t)
 
-pub returns-in_err-root-clause-each_moment : goal.returns-in_err-root-clause-each_moment
-returns-in_err-root-clause-each_moment g c t =
+pub returns-in_err-found-clause-unused : goal.returns-in_err-found-clause-unused
+returns-in_err-found-clause-unused g c t =
     let s0 = g.R.Rack.state c.args.rack.now in
-    let s1 = g.R.Rack.state c.sync.new.self in
-    let s2 = g.R.Rack.state c.read_book.new.rack in
-    let same = ap (λ (s : RackState). s.areas) c.read_book.ensures.same in
-    let past = ap (λ (s : RackState). s.past) c.read_book.ensures.same in
-    let s3 = g.R.Rack.state c.made_roots.new.rack in
-    let s4 = g.R.Rack.state c.open_log.new.rack in
-    from_root c.args.shape.now c.args.limit s0 s1 s2 (c.sync.ensures.images t) (c.in_ok-sync.ensures.synced t) (c.sync.ensures.moment t) same past
-    s3 (c.made_roots.ensures.each_moment t) c.in_ok-known.known (c.in_ok-roots.ensures.reads t) (c.in_ok-roots.ensures.rest t) s4 (c.open_log.ensures.each_moment t)
+    let epochs = begun_of (roots_in (contents_of 0 s0)) in
+    weaker (NothingNew epochs s0.areas) (UnusedStay epochs s0.areas) s0 (g.R.Rack.state c.read.new.rack) (λ now nothing. nothing.others) (c.read.ensures.each_moment t)
 
-pub returns-in_err-logs-clause-each_moment : goal.returns-in_err-logs-clause-each_moment
-returns-in_err-logs-clause-each_moment g c t =
+pub returns-in-Ok-clause-each_moment : goal.returns-in-Ok-clause-each_moment
+returns-in-Ok-clause-each_moment g c t =
     let s0 = g.R.Rack.state c.args.rack.now in
-    let s1 = g.R.Rack.state c.sync.new.self in
-    let s2 = g.R.Rack.state c.read_book.new.rack in
-    let same = ap (λ (s : RackState). s.areas) c.read_book.ensures.same in
-    let past = ap (λ (s : RackState). s.past) c.read_book.ensures.same in
-    let s3 = g.R.Rack.state c.made_roots.new.rack in
-    let s4 = g.R.Rack.state c.open_log.new.rack in
-    let root = gate_rest 9 0 c.in_ok-root.root s4 (ap (λ (l : LogState). l.area) c.in_ok-root.ensures.log) (ap (λ (l : LogState). l.size) c.in_ok-root.ensures.log) (c.in_ok-root.ensures.stands t) in
-    from_logs c.args.shape.now c.args.limit s0 s1 s2 (c.sync.ensures.images t) (c.in_ok-sync.ensures.synced t) (c.sync.ensures.moment t) same past
-    s3 (c.made_roots.ensures.each_moment t) c.in_ok-known.known (c.in_ok-roots.ensures.reads t) (c.in_ok-roots.ensures.rest t) s4 (c.open_log.ensures.each_moment t) (c.in_ok-root.ensures.kept t) root (g.R.Rack.state c.open_logs.new.rack) (c.open_logs.ensures.each_moment t)
+    let s1 = g.R.Rack.state c.read.new.rack in
+    let s2 = g.R.Rack.state c.close.new.rack in
+    let found = c.in_ok-found.found in
+    let asked = c.in_ok-found.ensures.asked in
+    let rests = as_asked (λ (s : Shape) (l : ℕ). Rests s l found.book s1.areas) found.shape c.args.shape.now found.limit c.args.limit asked.0 asked.1 (c.close.ensures.rests t) in
+    let writes = as_asked (λ (s : Shape) (l : ℕ). AtEachMoment (Making s l found.book s1.areas) s1 s2) found.shape c.args.shape.now found.limit c.args.limit asked.0 asked.1 (c.close.ensures.each_moment t) in
+    opens_all c.args.shape.now c.args.limit found.book (begun_of (roots_in (contents_of 0 s0))) s0 s1 s2 (c.read.ensures.each_moment t) rests writes
 
-pub returns-clause-each_moment : goal.returns-clause-each_moment
-returns-clause-each_moment g c t =
+pub returns-in-Ok-clause-unused : goal.returns-in-Ok-clause-unused
+returns-in-Ok-clause-unused g c t =
     let s0 = g.R.Rack.state c.args.rack.now in
-    let s1 = g.R.Rack.state c.sync.new.self in
-    let s2 = g.R.Rack.state c.read_book.new.rack in
-    let same = ap (λ (s : RackState). s.areas) c.read_book.ensures.same in
-    let past = ap (λ (s : RackState). s.past) c.read_book.ensures.same in
-    let s3 = g.R.Rack.state c.made_roots.new.rack in
-    let s4 = g.R.Rack.state c.open_log.new.rack in
-    let root = gate_rest 9 0 c.in_ok-root.root s4 (ap (λ (l : LogState). l.area) c.in_ok-root.ensures.log) (ap (λ (l : LogState). l.size) c.in_ok-root.ensures.log) (c.in_ok-root.ensures.stands t) in
-    from_logs c.args.shape.now c.args.limit s0 s1 s2 (c.sync.ensures.images t) (c.in_ok-sync.ensures.synced t) (c.sync.ensures.moment t) same past
-    s3 (c.made_roots.ensures.each_moment t) c.in_ok-known.known (c.in_ok-roots.ensures.reads t) (c.in_ok-roots.ensures.rest t) s4 (c.open_log.ensures.each_moment t) (c.in_ok-root.ensures.kept t) root (g.R.Rack.state c.open_logs.new.rack) (c.open_logs.ensures.each_moment t)
+    let s1 = g.R.Rack.state c.read.new.rack in
+    let s2 = g.R.Rack.state c.close.new.rack in
+    let found = c.in_ok-found.found in
+    let asked = c.in_ok-found.ensures.asked in
+    let rests = as_asked (λ (s : Shape) (l : ℕ). Rests s l found.book s1.areas) found.shape c.args.shape.now found.limit c.args.limit asked.0 asked.1 (c.close.ensures.rests t) in
+    let writes = as_asked (λ (s : Shape) (l : ℕ). AtEachMoment (Making s l found.book s1.areas) s1 s2) found.shape c.args.shape.now found.limit c.args.limit asked.0 asked.1 (c.close.ensures.each_moment t) in
+    unused_all c.args.shape.now c.args.limit found.book (begun_of (roots_in (contents_of 0 s0))) s0 s1 s2 (c.read.ensures.each_moment t) rests writes
+    (begun_said (contents_of 0 s0) (contents_of 1 s0) (contents_of 2 s0) c.args.shape.now c.args.limit found.book (c.in_ok-found.ensures.book t))
 
-pub open_log-requires-clause-counted : goal.open_log-requires-clause-counted
-open_log-requires-clause-counted g c t =
-    let number = made_count c.args.shape.now c.args.limit (g.R.Rack.state c.made_roots.new.rack).areas c.in_ok-known.known (c.in_ok-roots.ensures.reads t) in
-    let read = ap length c.into_parts-floor.ensures.roots in
-    omega (arith, number, read, c.max-count.ensures, c.len.ensures)
-
-pub open_logs-requires-clause-fits : goal.open_logs-requires-clause-fits
-open_logs-requires-clause-fits g c = subst (λ (logs : List EpochLog). AllByRecursion (Fits c.args.limit) logs) (sym c.into_parts-floor.ensures.logs) c.in_ok-known.ensures.fits
-
-pub open_logs-requires-clause-read : goal.open_logs-requires-clause-read
-open_logs-requires-clause-read g c t =
-    let s3 = g.R.Rack.state c.made_roots.new.rack in
-    let s4 = g.R.Rack.state c.open_log.new.rack in
-    subst (λ (logs : List EpochLog). AllByRecursion (HasTags s4.areas) logs) (sym c.into_parts-floor.ensures.logs)
-    (all_by (HasTags s3.areas) (HasTags s4.areas) c.in_ok-known.known.logs (tags_beside s3.areas s4.areas (c.open_log.ensures.each_moment t).now.others)
-    (tags_read c.args.shape.now c.args.limit s3.areas (made c.args.shape.now c.in_ok-known.known) (c.in_ok-roots.ensures.reads t)))
-
-pub returns-clause-book : goal.returns-clause-book
-returns-clause-book g c t =
+pub returns-in-Err-clause-each_moment : goal.returns-in-Err-clause-each_moment
+returns-in-Err-clause-each_moment g c t =
     let s0 = g.R.Rack.state c.args.rack.now in
-    let s1 = g.R.Rack.state c.sync.new.self in
-    let read : book_in s0.areas c.args.shape.now c.args.limit ≡ Ok c.in_ok-known.known
-    = sym (read_synced c.args.shape.now c.args.limit s0.areas s1.areas (c.in_ok-sync.ensures.synced t)) ∙ c.in_ok-known.ensures.book t in
-    ap (made_where_read c.args.shape.now) read ∙ ap Ok (sym (book_is c.args.shape.now c.in_ok-known.known c.into_parts-floor.result.0 c.in_ok-logs.logs.items c.in_ok-roots.roots.items c.into_parts-floor.ensures.floor (c.in_ok-logs.ensures.logs ∙ c.into_parts-floor.ensures.logs) c.in_ok-roots.ensures.roots))
+    let s1 = g.R.Rack.state c.read.new.rack in
+    let s2 = g.R.Rack.state c.close.new.rack in
+    let found = c.in_ok-found.found in
+    let asked = c.in_ok-found.ensures.asked in
+    let rests = as_asked (λ (s : Shape) (l : ℕ). Rests s l found.book s1.areas) found.shape c.args.shape.now found.limit c.args.limit asked.0 asked.1 (c.close.ensures.rests t) in
+    let writes = as_asked (λ (s : Shape) (l : ℕ). AtEachMoment (Making s l found.book s1.areas) s1 s2) found.shape c.args.shape.now found.limit c.args.limit asked.0 asked.1 (c.close.ensures.each_moment t) in
+    opens_all c.args.shape.now c.args.limit found.book (begun_of (roots_in (contents_of 0 s0))) s0 s1 s2 (c.read.ensures.each_moment t) rests writes
 
-pub returns-clause-stands : goal.returns-clause-stands
-returns-clause-stands g c t =
+pub returns-in-Err-clause-unused : goal.returns-in-Err-clause-unused
+returns-in-Err-clause-unused g c t =
     let s0 = g.R.Rack.state c.args.rack.now in
-    let s1 = g.R.Rack.state c.sync.new.self in
-    let s2 = g.R.Rack.state c.read_book.new.rack in
-    let same = ap (λ (s : RackState). s.areas) c.read_book.ensures.same in
-    let past = ap (λ (s : RackState). s.past) c.read_book.ensures.same in
-    let s3 = g.R.Rack.state c.made_roots.new.rack in
-    let s4 = g.R.Rack.state c.open_log.new.rack in
-    let root = gate_rest 9 0 c.in_ok-root.root s4 (ap (λ (l : LogState). l.area) c.in_ok-root.ensures.log) (ap (λ (l : LogState). l.size) c.in_ok-root.ensures.log) (c.in_ok-root.ensures.stands t) in
-    let s5 = g.R.Rack.state c.open_logs.new.rack in
-    let is = book_is c.args.shape.now c.in_ok-known.known c.into_parts-floor.result.0 c.in_ok-logs.logs.items c.in_ok-roots.roots.items c.into_parts-floor.ensures.floor (c.in_ok-logs.ensures.logs ∙ c.into_parts-floor.ensures.logs) c.in_ok-roots.ensures.roots in
-    let tags = c.in_ok-logs.ensures.same t in
-    let reads = read_again c.args.shape.now c.args.limit s0 s1 s2 (c.sync.ensures.images t) (c.in_ok-sync.ensures.synced t) (c.sync.ensures.moment t) same past
-    s3 (c.made_roots.ensures.each_moment t) c.in_ok-known.known (c.in_ok-roots.ensures.reads t) (c.in_ok-roots.ensures.rest t) s4 (c.open_log.ensures.each_moment t) (c.in_ok-root.ensures.kept t) root s5 tags in
-    let book : StoredBook → StoreState = λ b. record { shape = c.args.shape.now; limit = c.args.limit; book = b; is_sound = true; spare = 0 } in
-    subst (λ (b : StoredBook). Stands (book b) s5.areas) (sym is)
-    (store_stands (book (made c.args.shape.now c.in_ok-known.known)) c.in_ok-logs.logs.items s5.areas (sym (c.in_ok-logs.ensures.logs ∙ c.into_parts-floor.ensures.logs))
-    (rest_kept 9 0 s4.areas s5.areas tags.root root) (c.in_ok-logs.ensures.stand t) reads (made_some c.args.shape.now c.in_ok-known.known))
+    let s1 = g.R.Rack.state c.read.new.rack in
+    let s2 = g.R.Rack.state c.close.new.rack in
+    let found = c.in_ok-found.found in
+    let asked = c.in_ok-found.ensures.asked in
+    let rests = as_asked (λ (s : Shape) (l : ℕ). Rests s l found.book s1.areas) found.shape c.args.shape.now found.limit c.args.limit asked.0 asked.1 (c.close.ensures.rests t) in
+    let writes = as_asked (λ (s : Shape) (l : ℕ). AtEachMoment (Making s l found.book s1.areas) s1 s2) found.shape c.args.shape.now found.limit c.args.limit asked.0 asked.1 (c.close.ensures.each_moment t) in
+    unused_all c.args.shape.now c.args.limit found.book (begun_of (roots_in (contents_of 0 s0))) s0 s1 s2 (c.read.ensures.each_moment t) rests writes
+    (begun_said (contents_of 0 s0) (contents_of 1 s0) (contents_of 2 s0) c.args.shape.now c.args.limit found.book (c.in_ok-found.ensures.book t))
 
-pub invariant_of-result : goal.invariant_of-result
-invariant_of-result g c =
-    let log = c.in_ok-root.ensures.log in
-    let roots = ap length c.in_ok-roots.ensures.roots in
-    let some = made_some c.args.shape.now c.in_ok-known.known in (
-      c.requires.limit,
-      record {
-        area = ap (λ (l : LogState). l.area) log;
-        size = ap (λ (l : LogState). l.size) log;
-        same_limit = ap (λ (l : LogState). l.limit) log;
-        count = omega (arith, ap (λ (l : LogState). l.count) log, c.max-count.ensures, c.len.ensures, ap length c.into_parts-floor.ensures.roots, roots, with_made_count c.args.shape.now c.in_ok-known.known.roots);
-        is_sound = λ _. ap (λ (l : LogState). l.sound) log;
-        made = omega (arith, roots, some);
-      },
-      near_logs c.into_parts-floor.result.0 c.in_ok-logs.logs.items c.in_ok-known.known.logs (c.in_ok-logs.ensures.logs ∙ c.into_parts-floor.ensures.logs)
-          (subst (λ (floor : ℕ). AreNear floor (map (λ (l : EpochLog). l.epoch) c.in_ok-known.known.logs)) (sym c.into_parts-floor.ensures.floor) c.into_parts-floor.ensures.near),
-      c.in_ok-logs.ensures.of_store,
-      c.in_ok-logs.ensures.room,
-      λ never. absurd (cc),
-    )
+-- ---- the rack failed in a write
 
-pub returns-in_err-sync-clause-journal : goal.returns-in_err-sync-clause-journal
-returns-in_err-sync-clause-journal g c t books covers =
-    journal_left c.args.shape.now c.args.limit (g.R.Rack.state c.args.rack.now).areas (g.R.Rack.state c.sync.new.self).areas (c.sync.ensures.images t) books covers c.from_residual.result (search rules) (search rules)
-    (returns-in_err-sync-clause-each_moment g c t).now
+pub returns-in-Err-clause-reads : goal.returns-in-Err-clause-reads
+returns-in-Err-clause-reads g c t =
+    let s0 = g.R.Rack.state c.args.rack.now in
+    let s2 = g.R.Rack.state c.close.new.rack in
+    let found = c.in_ok-found.found in
+    let asked = c.in_ok-found.ensures.asked in
+    let there = as_asked (λ (s : Shape) (l : ℕ). Contains (as_read (found.book ∷ made s found.book ∷ [])) (book_in s2.areas s l)) found.shape c.args.shape.now found.limit c.args.limit asked.0 asked.1 (c.in-Err.ensures.reads t) in
+    read_made c.args.shape.now found.book (book_in s0.areas c.args.shape.now c.args.limit) (book_in s2.areas c.args.shape.now c.args.limit) (c.in_ok-found.ensures.book t) there
 
-pub returns-in_err-known-clause-journal : goal.returns-in_err-known-clause-journal
-returns-in_err-known-clause-journal g c t books covers =
-    journal_left c.args.shape.now c.args.limit (g.R.Rack.state c.args.rack.now).areas (g.R.Rack.state c.read_book.new.rack).areas (c.sync.ensures.images t) books covers c.from_residual-in_err-known.result (search rules) (returns-in_err-known-clause-objection g c t)
-    (returns-in_err-known-clause-each_moment g c t).now
+pub returns-in-Err-clause-journal : goal.returns-in-Err-clause-journal
+returns-in-Err-clause-journal g c t books covers =
+    let s0 = g.R.Rack.state c.args.rack.now in
+    journal_failed c.args.shape.now c.args.limit s0.areas (g.R.Rack.state c.close.new.rack).areas (c.read.ensures.images t) books covers (returns-in-Err-clause-each_moment g c t).now
 
-pub returns-in_err-roots-clause-journal : goal.returns-in_err-roots-clause-journal
-returns-in_err-roots-clause-journal g c t books covers =
-    journal_left c.args.shape.now c.args.limit (g.R.Rack.state c.args.rack.now).areas (g.R.Rack.state c.made_roots.new.rack).areas (c.sync.ensures.images t) books covers c.from_residual-in_err-roots.result (search rules) (search rules)
-    (returns-in_err-roots-clause-each_moment g c t).now
+-- ---- it is opened
 
-pub returns-in_err-root-clause-journal : goal.returns-in_err-root-clause-journal
-returns-in_err-root-clause-journal g c t books covers =
-    journal_left c.args.shape.now c.args.limit (g.R.Rack.state c.args.rack.now).areas (g.R.Rack.state c.open_log.new.rack).areas (c.sync.ensures.images t) books covers c.from_residual-in_err-root.result (search rules) (search rules)
-    (returns-in_err-root-clause-each_moment g c t).now
+pub returns-in-Ok-clause-book : goal.returns-in-Ok-clause-book
+returns-in-Ok-clause-book g c t =
+    let found = c.in_ok-found.found in
+    let asked = c.in_ok-found.ensures.asked in
+    ap (λ (read : Result StoredBook Objection). made_where_read c.args.shape.now read) (c.in_ok-found.ensures.book t)
+    ∙ (λ i. Ok (made (sym asked.0 i) found.book)) ∙ ap (λ (s : StoreState). Ok s.book) (sym c.in-Ok.ensures.store)
 
-pub returns-in_err-logs-clause-journal : goal.returns-in_err-logs-clause-journal
-returns-in_err-logs-clause-journal g c t books covers =
-    journal_left c.args.shape.now c.args.limit (g.R.Rack.state c.args.rack.now).areas (g.R.Rack.state c.open_logs.new.rack).areas (c.sync.ensures.images t) books covers c.from_residual-in_err-logs.result (search rules) (search rules)
-    (returns-in_err-logs-clause-each_moment g c t).now
+pub returns-in-Ok-clause-store : goal.returns-in-Ok-clause-store
+returns-in-Ok-clause-store g c =
+    let asked = c.in_ok-found.ensures.asked in
+    λ i. record {
+      shape = (ap (λ (s : StoreState). s.shape) c.in-Ok.ensures.store ∙ asked.0) i;
+      limit = (ap (λ (s : StoreState). s.limit) c.in-Ok.ensures.store ∙ asked.1) i;
+      book = c.in-Ok.store.book;
+      is_sound = ap (λ (s : StoreState). s.is_sound) c.in-Ok.ensures.store i;
+      spare = c.in-Ok.store.spare;
+    }
 
-pub returns-clause-journal : goal.returns-clause-journal
-returns-clause-journal g c t books covers =
-    let store : StoreState = record { shape = c.args.shape.now; limit = c.args.limit; book = book_with c.into_parts-floor.result.0 c.in_ok-logs.logs.items c.in_ok-roots.roots.items; is_sound = true; spare = 0 } in
-    journal_opened c.args.shape.now c.args.limit (g.R.Rack.state c.args.rack.now).areas (g.R.Rack.state c.open_logs.new.rack).areas (c.sync.ensures.images t) books covers store refl refl
-    (returns-clause-book g c t) (returns-clause-stands g c t)
+pub returns-in-Ok-clause-alone : goal.returns-in-Ok-clause-alone
+returns-in-Ok-clause-alone g c t =
+    let asked = c.in_ok-found.ensures.asked in
+    let store = c.in-Ok.store in
+    let s2 = g.R.Rack.state c.close.new.rack in
+    as_asked (λ (s : Shape) (l : ℕ). OpensToOneOf s l (as_read (store.book ∷ [])) s2.areas) store.shape c.args.shape.now store.limit c.args.limit (ap (λ (s : StoreState). s.shape) c.in-Ok.ensures.store ∙ asked.0)
+    (ap (λ (s : StoreState). s.limit) c.in-Ok.ensures.store ∙ asked.1) (standing store s2.areas (c.in-Ok.ensures.stands t))
+
+pub returns-in-Ok-clause-journal : goal.returns-in-Ok-clause-journal
+returns-in-Ok-clause-journal g c t books covers =
+    let s0 = g.R.Rack.state c.args.rack.now in
+    let asked = c.in_ok-found.ensures.asked in
+    journal_opened c.args.shape.now c.args.limit s0.areas (g.R.Rack.state c.close.new.rack).areas (c.read.ensures.images t) books covers c.in-Ok.store (ap (λ (s : StoreState). s.shape) c.in-Ok.ensures.store ∙ asked.0)
+    (ap (λ (s : StoreState). s.limit) c.in-Ok.ensures.store ∙ asked.1) (returns-in-Ok-clause-book g c t) (c.in-Ok.ensures.stands t)

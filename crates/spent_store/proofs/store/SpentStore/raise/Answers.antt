@@ -1,44 +1,46 @@
-use Rattle.std.proofs.Common.{◌^◌, ◌<◌, inl, sym, ◌∙◌, ap, subst, arith, rules}
-use Rattle.replay_disk.specs.Disk.{contents_of}
-use Rattle.replay_disk.specs.Laws.{weaker, started}
-use Rattle.gate_log.specs.Log.{EachImage, IsOldOrWith}
-use Rattle.gate_log.specs.Records.{records}
+use Rattle.std.proofs.Common.{◌^◌, ◌<◌, [], inl, refl, sym, ◌∙◌, ap, subst, arith, rules}
+use Rattle.replay_disk.proofs.Laws.{started}
 use Rattle.spent_store.specs.Changes.{raised, retirement_stages}
-use Rattle.spent_store.specs.Root.{spell_root}
-use Rattle.spent_store.specs.Stores.{StoreState, Stands, OpensToOneOf, as_read, opened}
-use Rattle.spent_store.specs.declared.root.RootRecord.TheVariants.{Floor}
-use Rattle.spent_store.proofs.Stages.{raising, reads_still, in_two, raised_stands}
+use Rattle.spent_store.specs.Kept.{Leaves}
+use Rattle.spent_store.specs.Stores.{StoreState, Stands, opened}
+use Rattle.spent_store.proofs.Changing.{floor_moments, floor_read_then, floor_stands}
+use Rattle.spent_store.proofs.Leaving.{on_any}
+use Rattle.spent_store.proofs.Stages.{reads_still, in_two}
 use Rattle.spent_store.proofs.StoreLogs.{raised_kept, of_store_kept, near_logs_kept}
 use Rattle.spent_store.proofs.store.SpentStore.raise.Goals as goal
 
 pub returns-then-floor-self-clause-each_moment : goal.returns-then-floor-self-clause-each_moment
-returns-then-floor-self-clause-each_moment g c t =
+returns-then-floor-self-clause-each_moment g c t epochs =
     let s0 = g.R.Rack.state c.args.rack.now in
     let store = c.args.self.now in
-    started (OpensToOneOf store.shape store.limit (as_read (retirement_stages c.args.floor store.book))) s0
-    (λ left. in_two store.book (raised c.args.floor store.book) (opened store.shape store.limit s0.areas left) (inl (reads_still store s0.areas (c.requires.stands t) left)))
+    started (Leaves store.shape store.limit (retirement_stages c.args.floor store.book) epochs s0.areas) s0
+    (record {
+      opens = λ left. in_two store.book (raised c.args.floor store.book) (opened store.shape store.limit s0.areas left) (inl (reads_still store s0.areas (c.requires.stands t) left));
+      others = λ area some low unused. refl;
+    })
 
 pub returns-in_err-append_root-clause-each_moment : goal.returns-in_err-append_root-clause-each_moment
-returns-in_err-append_root-clause-each_moment g c t =
-    let s0 = g.R.Rack.state c.args.rack.now in
-    let s1 = g.R.Rack.state c.append_root.new.rack in
+returns-in_err-append_root-clause-each_moment g c t epochs =
     let store = c.args.self.now in
     let small : c.args.floor < 2 ^ 64 = search rules in
     let above : store.book.floor < c.args.floor = omega (arith, c.if-floor-self.false, ap (λ (s : StoreState). s.book.floor) c.self.view_is) in
-    weaker (EachImage 0 (λ image. IsOldOrWith (records 9 (contents_of 0 s0)) (spell_root (Floor c.args.floor)) (records 9 image)) s0.areas)
-    (OpensToOneOf store.shape store.limit (as_read (retirement_stages c.args.floor store.book))) s0 s1
-    (raising store s0.areas (c.requires.stands t) c.args.floor (c.requires.fits above) small above) (c.append_root.ensures.each_moment t)
+    floor_moments store c.args.floor epochs (g.R.Rack.state c.args.rack.now) (g.R.Rack.state c.append_root.new.rack) (c.requires.stands t) (c.requires.fits above) small above (c.append_root.ensures.each_moment t)
+
+pub returns-in_err-append_root-clause-reads : goal.returns-in_err-append_root-clause-reads
+returns-in_err-append_root-clause-reads g c t =
+    let store = c.args.self.now in
+    let small : c.args.floor < 2 ^ 64 = search rules in
+    let above : store.book.floor < c.args.floor = omega (arith, c.if-floor-self.false, ap (λ (s : StoreState). s.book.floor) c.self.view_is) in
+    on_any c.from_residual.result
+    (floor_read_then store c.args.floor [] (g.R.Rack.state c.args.rack.now) (g.R.Rack.state c.append_root.new.rack) (c.requires.stands t) (c.requires.fits above) small above (c.append_root.ensures.each_moment t)
+    (c.append_root.ensures.image t))
 
 pub returns-clause-each_moment : goal.returns-clause-each_moment
-returns-clause-each_moment g c t =
-    let s0 = g.R.Rack.state c.args.rack.now in
-    let s1 = g.R.Rack.state c.append_root.new.rack in
+returns-clause-each_moment g c t epochs =
     let store = c.args.self.now in
     let small : c.args.floor < 2 ^ 64 = search rules in
     let above : store.book.floor < c.args.floor = omega (arith, c.if-floor-self.false, ap (λ (s : StoreState). s.book.floor) c.self.view_is) in
-    weaker (EachImage 0 (λ image. IsOldOrWith (records 9 (contents_of 0 s0)) (spell_root (Floor c.args.floor)) (records 9 image)) s0.areas)
-    (OpensToOneOf store.shape store.limit (as_read (retirement_stages c.args.floor store.book))) s0 s1
-    (raising store s0.areas (c.requires.stands t) c.args.floor (c.requires.fits above) small above) (c.append_root.ensures.each_moment t)
+    floor_moments store c.args.floor epochs (g.R.Rack.state c.args.rack.now) (g.R.Rack.state c.append_root.new.rack) (c.requires.stands t) (c.requires.fits above) small above (c.append_root.ensures.each_moment t)
 
 pub returns-clause-ok : goal.returns-clause-ok
 returns-clause-ok g c =
@@ -57,13 +59,12 @@ returns-clause-ok g c =
 
 pub returns-clause-stands : goal.returns-clause-stands
 returns-clause-stands g c t =
-    let s0 = g.R.Rack.state c.args.rack.now in
     let s1 = g.R.Rack.state c.append_root.new.rack in
     let store = c.args.self.now in
     let small : c.args.floor < 2 ^ 64 = search rules in
     let above : store.book.floor < c.args.floor = omega (arith, c.if-floor-self.false, ap (λ (s : StoreState). s.book.floor) c.self.view_is) in
     subst (λ (s : StoreState). Stands s s1.areas) (sym (returns-clause-ok g c))
-    (raised_stands store s0.areas (c.requires.stands t) c.args.floor (c.requires.fits above) small above s1.areas (c.append_root.ensures.each_moment t).now.others
+    (floor_stands store c.args.floor [] (g.R.Rack.state c.args.rack.now) s1 (c.requires.stands t) (c.requires.fits above) small above (c.append_root.ensures.each_moment t)
     (c.in_ok-append_root.ensures.rest t) (c.in_ok-append_root.ensures.records t))
 
 pub invariant_of-self : goal.invariant_of-self

@@ -1,7 +1,7 @@
 use Rattle.std.proofs.Common.{◌≡◌, ap, sym, ◌∙◌, subst, All}
 use Rattle.turn_lock.specs.Seen.{Caller, resting}
 use Rattle.turn_lock.specs.Stories.{after, Begins}
-use Rattle.turn_lock.proofs.Passes.{brings, counted_is, is_counted, ended_is, rests_again, gave}
+use Rattle.turn_lock.proofs.Passes.{brings, hand_of, is_back, rested_is, rests_again, gave}
 use Rattle.turn_lock.proofs.lock.TurnLock.give.Goals as goal
 
 pub count-requires-clause-brings : goal.count-requires-clause-brings
@@ -10,27 +10,35 @@ count-requires-clause-brings g c =
     let turns = ap (λ (p : Caller g.row.T-Entry.Denot). p.holds) c.pass.view_is ∙ c.requires.holds in
     let B : Caller g.row.T-Entry.Denot → Type 0 = λ p. Begins p.seen (story c.args.value) in
     let H : Caller g.row.T-Entry.Denot → Type 0 = λ p. All (λ e. g.T.Storied.caller e ≡ p.number) (after p.seen (story c.args.value)) in
-    brings g.T.Storied.origin story g.T.Storied.caller _ _ _ c.pass.invariant turns c.args.value _ _ c.put_back.ensures.back
-    (subst B (sym c.pass.view_is) c.requires.begins) (subst H (sym c.pass.view_is) c.requires.own_entries) c.entries.ensures
+    brings g.T.Storied.origin story g.T.Storied.caller _ _ _ c.pass.invariant turns c.args.value (subst B (sym c.pass.view_is) c.requires.begins)
+    _ (subst H (sym c.pass.view_is) c.requires.own_entries) c.entries.ensures
 
-pub end-requires-clause-counted : goal.end-requires-clause-counted
-end-requires-clause-counted g c =
+pub put_back-requires-clause-empty : goal.put_back-requires-clause-empty
+put_back-requires-clause-empty g c =
     let turns = ap (λ (p : Caller g.row.T-Entry.Denot). p.holds) c.pass.view_is ∙ c.requires.holds in
+    let B : Caller g.row.T-Entry.Denot → Type 0 = λ p. Begins p.seen (g.T.Storied.story c.args.value) in
+    hand_of g.T.Storied.origin g.T.Storied.story g.T.Storied.caller _ _ _ c.pass.invariant turns c.args.value (subst B (sym c.pass.view_is) c.requires.begins) _ c.count.ensures.counted
+
+pub end-requires-clause-back : goal.end-requires-clause-back
+end-requires-clause-back g c =
+    let turns = ap (λ (p : Caller g.row.T-Entry.Denot). p.holds) c.pass.view_is ∙ c.requires.holds in
+    let B : Caller g.row.T-Entry.Denot → Type 0 = λ p. Begins p.seen (g.T.Storied.story c.args.value) in
     let same = c.requires.origin ∙ (sym c.requires.own.1 ∙ sym (ap (λ (p : Caller g.row.T-Entry.Denot). p.origin) c.pass.view_is)) in
-    let counted = counted_is g.T.Storied.origin g.T.Storied.story g.T.Storied.caller _ _ _ c.pass.invariant turns c.args.value _ _ c.put_back.ensures.back c.count.ensures.counted in
-    is_counted g.T.Storied.origin g.T.Storied.story g.T.Storied.caller _ _ _ c.pass.invariant turns c.args.value _ counted same
+    is_back g.T.Storied.origin g.T.Storied.story g.T.Storied.caller _ _ _ c.pass.invariant turns c.args.value (subst B (sym c.pass.view_is) c.requires.begins) _ _ c.count.ensures.counted c.put_back.ensures.back same
 
 pub invariant_of-pass : goal.invariant_of-pass
 invariant_of-pass g c =
     let turns = ap (λ (p : Caller g.row.T-Entry.Denot). p.holds) c.pass.view_is ∙ c.requires.holds in
-    let counted = counted_is g.T.Storied.origin g.T.Storied.story g.T.Storied.caller _ _ _ c.pass.invariant turns c.args.value _ _ c.put_back.ensures.back c.count.ensures.counted in
-    let ended = ended_is g.T.Storied.origin g.T.Storied.story g.T.Storied.caller _ _ _ c.pass.invariant turns c.args.value _ _ counted c.end.ensures.ends in
-    rests_again g.T.Storied.origin g.T.Storied.story g.T.Storied.caller _ _ _ c.pass.invariant turns c.args.value _ _ ended
+    let B : Caller g.row.T-Entry.Denot → Type 0 = λ p. Begins p.seen (g.T.Storied.story c.args.value) in
+    let begins = subst B (sym c.pass.view_is) c.requires.begins in
+    let rested = rested_is g.T.Storied.origin g.T.Storied.story g.T.Storied.caller _ _ _ c.pass.invariant turns c.args.value begins _ _ _ c.count.ensures.counted c.put_back.ensures.back c.end.ensures.ends in
+    rests_again g.T.Storied.origin g.T.Storied.story g.T.Storied.caller _ _ _ c.pass.invariant turns c.args.value begins _ _ rested
 
 pub returns : goal.returns
 returns g c =
     let turns = ap (λ (p : Caller g.row.T-Entry.Denot). p.holds) c.pass.view_is ∙ c.requires.holds in
-    let counted = counted_is g.T.Storied.origin g.T.Storied.story g.T.Storied.caller _ _ _ c.pass.invariant turns c.args.value _ _ c.put_back.ensures.back c.count.ensures.counted in
-    let ended = ended_is g.T.Storied.origin g.T.Storied.story g.T.Storied.caller _ _ _ c.pass.invariant turns c.args.value _ _ counted c.end.ensures.ends in
-    let same = c.end.ensures.seat.0 ∙ (c.count.ensures.seat.0 ∙ c.put_back.ensures.seat.0) in
-    record { pass = gave g.T.Storied.origin g.T.Storied.story g.T.Storied.caller _ _ _ c.pass.invariant turns c.args.value _ _ _ same ended ∙ ap (λ (p : Caller g.row.T-Entry.Denot). resting p (g.T.Storied.story c.args.value)) c.pass.view_is }
+    let B : Caller g.row.T-Entry.Denot → Type 0 = λ p. Begins p.seen (g.T.Storied.story c.args.value) in
+    let begins = subst B (sym c.pass.view_is) c.requires.begins in
+    let rested = rested_is g.T.Storied.origin g.T.Storied.story g.T.Storied.caller _ _ _ c.pass.invariant turns c.args.value begins _ _ _ c.count.ensures.counted c.put_back.ensures.back c.end.ensures.ends in
+    let same = c.end.ensures.seat.0 ∙ (c.put_back.ensures.seat.0 ∙ c.count.ensures.seat.0) in
+    record { pass = gave g.T.Storied.origin g.T.Storied.story g.T.Storied.caller _ _ _ c.pass.invariant turns c.args.value begins _ _ _ same rested ∙ ap (λ (p : Caller g.row.T-Entry.Denot). resting p (g.T.Storied.story c.args.value)) c.pass.view_is }

@@ -1,7 +1,0 @@
--- The sum over the logs so far, of which each has at most 2 ^ 26 tags.
-use Rattle.std.proofs.Common.{◌≡◌, ◌*◌, ◌^◌, ◌≤◌, sum_by, take}
-use Rattle.spent_store.specs.Books as books
-use Rattle.spent_store.proofs.known.KnownBook.summary.Given as goal
-
-abbrev pub invariant-counting : goal.invariant-counting
-invariant-counting l = (l.spent ≡ sum_by (λ log. books.distinct_count log.tags) (take l.log-index l.self-inside.logs.items)) × (l.spent ≤ l.log-index * 2 ^ 26)
