@@ -1,0 +1,3 @@
+-- Links first, then Objects, the states of the links in memory.
+pub mod Links
+pub mod Objects
