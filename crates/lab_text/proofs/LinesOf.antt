@@ -1,8 +1,8 @@
 -- The first line of what begins with bytes that have no line feed, and the cut of a block at a line feed.
-use Rattle.std.proofs.Common.{◌≡◌, ℕ, ◌+◌, ◌-◌, ◌^◌, ◌<◌, ◌≤◌, ◌⊎◌, List, [], ◌∷◌, ◌++◌, length, take, drop, get_or, Bool, true, false, ◌||◌, ◌&&◌, not, eqb, leb, ltb, Option, Some, None, Result, Err, IfSome, IsSomeAnd, option_map, refl, sym, ◌∙◌, ap, arith, inl, inr, suc, zero}
+use Rattle.std.proofs.Common.{◌≡◌, ℕ, ◌+◌, ◌-◌, ◌^◌, ◌<◌, ◌≤◌, ◌⊎◌, List, [], ◌∷◌, ◌++◌, length, take, drop, get_or, Bool, true, false, ◌||◌, not, eqb, ltb, Option, Some, None, Result, Err, IfSome, IsSomeAnd, option_map, refl, sym, ◌∙◌, ap, arith, inl, inr, suc, zero}
 use Rattle.std.proofs.lemmas.List.{length-drop, take-append-drop, take-take, drop_more, get_or-take, get_or-drop, drop-drop, drop-take, length-take, length-append, append_assoc, append-nil, nil_from_length, take_all}
 use Rattle.std.proofs.lemmas.Bool.Decides.{nat_tests}
-use borrow.Author.Tests.{ltb-true, ltb-false}
+use borrow.Author.Tests.{ltb-true}
 use Rattle.lab_text.specs.declared.faults.LineFault.{LineFault}
 use Rattle.lab_text.specs.declared.faults.LineFault.TheVariants.{BadLine}
 use Rattle.memchr.specs.Find.{IsFirstByte, is_byte}

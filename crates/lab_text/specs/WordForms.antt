@@ -38,6 +38,13 @@ only_word [] = None
 only_word (word ∷ []) = Some word
 only_word (word ∷ other ∷ words) = None
 
+-- the two words there are
+abbrev pub both_words : List (List ℕ) → Option (List ℕ × List ℕ)
+both_words [] = None
+both_words (first ∷ []) = None
+both_words (first ∷ second ∷ []) = Some (first, second)
+both_words (first ∷ second ∷ other ∷ words) = None
+
 -- a value behind which no word stands
 abbrev pub alone : {A : Type 0} → A → List (List ℕ) → Option A
 alone value [] = Some value

@@ -1,5 +1,5 @@
 -- The words of a line, and what a word says: a number in a range, or bytes.
-use Rattle.std.specs.Prelude.{ℕ, ◌+◌, ◌-◌, ◌*◌, ◌^◌, nat_le, Bool, true, ◌==◌, ◌||◌, ◌&&◌, if◌then◌else◌}
+use Rattle.std.specs.Prelude.{ℕ, ◌+◌, ◌-◌, ◌*◌, ◌^◌, nat_le, nat_lt, Bool, true, ◌==◌, ◌||◌, ◌&&◌, if◌then◌else◌}
 use Rattle.std.specs.Prelude.{List, [], ◌∷◌, length, Option, Some, None, codes}
 use Rattle.std.specs.Result.{result_ok}
 use Rattle.std.specs.Str.{bytes_eq}
@@ -46,6 +46,14 @@ within low high value = if nat_le low value && nat_le value high then Some value
 -- the value of a number in a range
 abbrev pub number_in : ℕ → ℕ → List ℕ → Option ℕ
 number_in low high word = numeral_value word >>= within low high
+
+-- a value that is below a bound
+abbrev pub below : ℕ → ℕ → Option ℕ
+below bound value = if nat_lt value bound then Some value else None
+
+-- the value of a number below a bound
+abbrev pub number_below : ℕ → List ℕ → Option ℕ
+number_below bound word = numeral_value word >>= below bound
 
 -- the greatest moment, in milliseconds, and the greatest number of an epoch
 abbrev pub last_moment : ℕ

@@ -1,9 +1,11 @@
-// The texts of the commands: an input read line by line, the words of a line and what they say, and the statuses by
-// which a command ends. Each reader answers exactly what its definition in specs/ has.
+// The texts of the commands: an input read line by line, the words of a line and what they say, the node line and the
+// events of a script, and the statuses by which a command ends. Each reader answers exactly what its definition in specs/ has.
 #![tactic(auto)]
 
+mod events;
 mod faults;
 mod lines;
+mod node_lines;
 mod sizes;
 mod statuses;
 #[cfg(test)]
@@ -11,8 +13,10 @@ mod tests;
 mod word_forms;
 mod words;
 
+pub use events::{Event, read_event};
 pub use faults::{LineFault, WordFault};
 pub use lines::LineReader;
+pub use node_lines::{NodeLine, read_node};
 pub use sizes::{SizesLine, next_sizes};
 pub use statuses::{Status, code, write_status};
 pub use word_forms::{

@@ -1,4 +1,6 @@
 // What no clause says: that lines and texts come out as written, and that a failed read is named and loses nothing.
+mod script_lines;
+
 use crate::{LineFault, LineReader, Status, code, write_status};
 use mix_base::{MemSink, MemSource, Source};
 use std::alloc::{AllocError, Global};

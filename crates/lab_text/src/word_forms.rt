@@ -3,8 +3,8 @@
 ghost use Rattle.std.specs.Prelude.{◌≡◌, ◌≤◌, length, IfOk, IfSome, option_map, option_copied};
 ghost use Rattle.lab_text.specs.Faults.{ReadsAs, ReadsWords};
 ghost use Rattle.lab_text.specs.Words.{words_of};
-ghost use Rattle.lab_text.specs.WordForms.{alone, bytes_in, first_bytes, first_number, only_bytes};
-ghost use Rattle.lab_text.specs.WordForms.{only_word, said_words, says_nothing, suite_of, surb_of};
+ghost use Rattle.lab_text.specs.WordForms.{alone, both_words, bytes_in, first_bytes, first_number};
+ghost use Rattle.lab_text.specs.WordForms.{only_bytes, only_word, said_words, says_nothing, suite_of, surb_of};
 
 use crate::{WordFault, next_word, read_bytes, read_number};
 use hex::FromHex;
@@ -40,6 +40,15 @@ pub fn one_word(rest: &[u8]) -> Option<&[u8]>
         None => Some(word),
         Some(_) => None,
     }
+}
+
+/// The only two words.
+pub fn only_two(rest: &[u8]) -> Option<(&[u8], &[u8])>
+    ensures { option_map (λ both. (both.0.now, both.1.now)) result ≡ both_words (words_of rest.now) }
+{
+    let (first, others) = next_word(rest)?;
+    let second = one_word(others)?;
+    Some((first, second))
 }
 
 /// A number in a range as the first word, and what stands behind it.

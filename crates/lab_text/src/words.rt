@@ -3,7 +3,8 @@
 ghost use Rattle.std.specs.Prelude.{◌≡◌, ◌+◌, ◌*◌, ◌^◌, ◌<◌, ◌≤◌, ◌∷◌, [], length, take, drop, slice_index};
 ghost use Rattle.std.specs.Prelude.{Some, true, false, IfOk, IfSome, IfNone, MatchOption, option_map};
 ghost use Rattle.lab_text.specs.Faults.{ReadsAs};
-ghost use Rattle.lab_text.specs.Words.{words_of, is_blank, numeral_value, number_in, bytes_of, thirty_two};
+ghost use Rattle.lab_text.specs.Words.{words_of, is_blank, numeral_value, number_in, number_below};
+ghost use Rattle.lab_text.specs.Words.{bytes_of, thirty_two};
 
 use crate::WordFault;
 use hex::{FromHex, FromHexError};
@@ -77,6 +78,15 @@ pub fn read_number(word: &[u8], low: u64, high: u64) -> Option<u64>
     } else {
         None
     }
+}
+
+/// The value of a number below a bound: 1 to 20 decimal digits.
+pub fn read_below(word: &[u8], bound: u64) -> Option<u64>
+    ensures exact { result ≡ number_below bound word.now }
+    ensures below { IfSome result (λ value. value < bound) }
+{
+    let value = read_digits(word)?;
+    if value < bound { Some(value) } else { None }
 }
 
 // The value of 1 to 20 decimal digits, where it is below 2^64.

@@ -1,7 +1,6 @@
 -- What a sink was given: nothing, one piece behind another, a front.
 use Rattle.std.proofs.Common.{◌≡◌, ℕ, List, [], ◌∷◌, ◌++◌, take, refl, ap, ◌∙◌, sym, append_assoc, Option, Some, None, IfSome, IsSomeAnd}
 use Rattle.std.proofs.lemmas.List.{append-nil}
-use Rattle.std.proofs.Math.Seq.{take-length}
 use Rattle.mix_base.specs.Writing.{GivesFront}
 use Rattle.lab_text.specs.Given.{Gave}
 use Rattle.mix_top.specs.Progress.{GaveFront, GaveText}

@@ -1,7 +1,7 @@
 -- Each hand-on line is honest: what a node holds came from its arrivals, unwrapped under a live key, and a `send` takes
 -- what is due.
-use Rattle.std.proofs.Common.{◌≡◌, ℕ, suc, ◌+◌, ◌≤◌, IsTrue, List, [], ◌∷◌, ◌++◌, length, take, drop, map, ◌⊎◌, inl, inr, refl, ap, ◌∙◌, sym, subst, append_assoc, slice_set, slice_index_or, Option, Some, None, IfSome, option_map, unwrap_or, Result, Ok, Err, arith}
-use Rattle.std.specs.List.{All, Contains, remove, slice_get}
+use Rattle.std.proofs.Common.{◌≡◌, ℕ, suc, ◌+◌, ◌≤◌, IsTrue, List, [], ◌∷◌, ◌++◌, length, take, drop, map, ◌⊎◌, inl, inr, refl, ap, ◌∙◌, sym, subst, append_assoc, slice_set, Option, Some, None, IfSome, option_map, Result, Ok, Err, arith}
+use Rattle.std.specs.List.{All, Contains, slice_get}
 use Rattle.std.proofs.lemmas.List.{append-nil, get_or_past, length-append, take-append-drop}
 use Rattle.std.proofs.lemmas.Option.{slice_get_within, get_or_from_slice_get}
 use Rattle.std.proofs.lemmas.Bool.{cases_lt}
@@ -9,20 +9,23 @@ use Rattle.std.proofs.lemmas.List.Elements.{All-append, All-cons, All-drop, All-
 use Rattle.mix_base.proofs.Members.{Contains-head, Contains-tail}
 use Rattle.prim_std.specs.Laboratory.{lab_scheme, lab_meaning}
 use Rattle.epoch_keys.proofs.LiveEpochs.{live_exactly}
-use Rattle.epoch_keys.specs.Epochs.{InRange, is_live, live_epochs, least_live}
+use Rattle.epoch_keys.specs.Epochs.{InRange, is_live, live_epochs}
 use Rattle.epoch_keys.specs.Keys.{epoch_secret_key, secret_keys}
 use Rattle.mix_base.specs.Options.{◌>>=◌}
 use Rattle.sphinx_unwrap.specs.Outcome.{unwrapped}
 use Rattle.sphinx_unwrap.specs.declared.outcome.Opened.{Opened}
 use Rattle.sphinx_unwrap.specs.declared.faults.Refused.{Refused}
 use Rattle.sphinx_unwrap.specs.declared.faults.Refused.TheVariants as refusals
+use Rattle.lab_text.specs.Script.{Events}
 use Rattle.lab_text.specs.declared.statuses.Status.{Status}
 use Rattle.lab_text.specs.declared.statuses.Status.TheVariants.{Done, Words, Line, ReadFault, WriteFault, Memory, Later}
-use Rattle.mix_top.specs.Book.{Book, Claims}
+use Rattle.lab_text.specs.declared.events.Event.{Event}
+use Rattle.lab_text.specs.declared.events.Event.TheVariants as events
+use Rattle.mix_top.specs.Book.{Book}
 use Rattle.mix_top.specs.Honest.{IsHonest, arrival_by, arrivals_from}
 use Rattle.mix_top.specs.Keys.{first_open, live_keys, opened_at, opened_with}
 use Rattle.mix_top.specs.Node.{NodeState, new_node}
-use Rattle.mix_top.specs.Program.{Events, Program, set_up}
+use Rattle.mix_top.specs.Program.{Program, set_up}
 use Rattle.mix_top.specs.Promise.{HandsOnHonestly, Owes}
 use Rattle.mix_top.specs.Run.{Runs}
 use Rattle.mix_top.specs.Step.{Step, Admits, ClaimsFor, Sends, item_of, peeled_by, received, settled, taken, worker_at}
@@ -33,8 +36,6 @@ use Rattle.mix_top.specs.declared.items.Item.{Item}
 use Rattle.mix_top.specs.declared.items.Setup.{Setup}
 use Rattle.mix_top.specs.declared.report.ReportLine.{ReportLine}
 use Rattle.mix_top.specs.declared.report.ReportLine.TheVariants as says
-use Rattle.mix_top.specs.declared.script.Event.{Event}
-use Rattle.mix_top.specs.declared.script.Event.TheVariants as events
 
 -- a run goes on by one event
 pub Runs-push : (setup : Setup) (done : List (ℕ × Event)) (old : NodeState) (report : List ReportLine) (between : NodeState) (event : ℕ × Event) (lines : List ReportLine) (new : NodeState)
@@ -265,9 +266,13 @@ came_by setup arrivals old (events.Claim worker) lines new came step =
     (came_claimed setup arrivals old worker (worker_at old worker) lines new came (came_worker setup arrivals old worker came) step)
 came_by setup arrivals old (events.Send moment) lines new came step =
     subst (λ (a : List Arrival). Came setup a new) (sym (append-nil arrivals)) (came_sent setup arrivals old moment lines new came step)
-came_by setup arrivals old events.Skip lines new came step =
+came_by setup arrivals old (events.Rotate moment) lines new came step =
     subst (λ (a : List Arrival). Came setup a new) (sym (append-nil arrivals)) (subst (Came setup arrivals) (sym step.1) came)
-came_by setup arrivals old events.Later lines new came step =
+came_by setup arrivals old (events.Arm shard calls) lines new came step =
+    subst (λ (a : List Arrival). Came setup a new) (sym (append-nil arrivals)) (subst (Came setup arrivals) (sym step.1) came)
+came_by setup arrivals old (events.Crash pick) lines new came step =
+    subst (λ (a : List Arrival). Came setup a new) (sym (append-nil arrivals)) (subst (Came setup arrivals) (sym step.1) came)
+came_by setup arrivals old events.Skip lines new came step =
     subst (λ (a : List Arrival). Came setup a new) (sym (append-nil arrivals)) (subst (Came setup arrivals) (sym step.1) came)
 
 -- the arrivals of events and of one event more
@@ -389,8 +394,10 @@ sent_in setup old (events.Recv moment packet) said new lines item others step sa
 sent_in setup old (events.Peel worker) said new lines item others step same = absurd (peeled_says setup old worker (worker_at old worker) said new step lines item others same)
 sent_in setup old (events.Claim worker) said new lines item others step same = absurd (claimed_says setup old worker (worker_at old worker) said new step lines item others same)
 sent_in setup old (events.Send moment) said new lines item others step same = sent_by old moment said new lines item others step same
+sent_in setup old (events.Rotate moment) said new lines item others step same = absurd (nothing_said lines item others (sym step.0 ∙ same))
+sent_in setup old (events.Arm shard calls) said new lines item others step same = absurd (nothing_said lines item others (sym step.0 ∙ same))
+sent_in setup old (events.Crash pick) said new lines item others step same = absurd (nothing_said lines item others (sym step.0 ∙ same))
 sent_in setup old events.Skip said new lines item others step same = absurd (nothing_said lines item others (sym step.0 ∙ same))
-sent_in setup old events.Later said new lines item others step same = absurd (nothing_said lines item others (sym step.0 ∙ same))
 
 -- what is held came from an arrival
 held_came : (setup : Setup) (arrivals : List Arrival) (old : NodeState) (place : ℕ) (item : Item) → Came setup arrivals old → slice_get old.held place ≡ Some item → CameFrom setup arrivals item

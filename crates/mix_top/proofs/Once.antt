@@ -8,6 +8,10 @@ use Rattle.std.proofs.lemmas.Option.{slice_get_within, get_or_from_slice_get}
 use Rattle.std.proofs.lemmas.Bool.{cases_lt, ltb-true, le-leb}
 use Rattle.std.proofs.lemmas.List.Elements.{Contains-append_left, Contains-append_right, Contains-push, Contains-push_cases}
 use Rattle.mix_base.proofs.Members.{none_in_empty, Contains-filter, Contains-head, Contains-cons_cases}
+use Rattle.lab_text.specs.declared.statuses.Status.{Status}
+use Rattle.lab_text.specs.declared.statuses.Status.TheVariants.{Done, Words, Line, ReadFault, WriteFault, Memory, Later}
+use Rattle.lab_text.specs.declared.events.Event.{Event}
+use Rattle.lab_text.specs.declared.events.Event.TheVariants as events
 use Rattle.mix_top.proofs.Members.{Contains-without, NoneTwice-push, NoneTwice-without}
 use Rattle.mix_top.specs.Book.{Book, Claims, raise, add, kept}
 use Rattle.epoch_keys.specs.Epochs.{least_live}
@@ -16,8 +20,6 @@ use Rattle.mix_top.specs.Node.{NodeState, new_node}
 use Rattle.mix_top.specs.Program.{Program}
 use Rattle.mix_top.specs.Promise.{IsReportOf, IsReportOfFirst, Owes}
 use Rattle.mix_top.specs.Run.{Runs}
-use Rattle.lab_text.specs.declared.statuses.Status.{Status}
-use Rattle.lab_text.specs.declared.statuses.Status.TheVariants.{Done, Words, Line, ReadFault, WriteFault, Memory, Later}
 use Rattle.mix_top.specs.Keys.{opened_at}
 use Rattle.mix_top.specs.Step.{Step, peeled_by, taken, settled, worker_at, ClaimsFor, Admits, Sends, received}
 use Rattle.mix_top.specs.declared.items.Arrival.{Arrival}
@@ -25,8 +27,6 @@ use Rattle.mix_top.specs.declared.items.Item.{Item}
 use Rattle.mix_top.specs.declared.items.Setup.{Setup}
 use Rattle.mix_top.specs.declared.report.ReportLine.{ReportLine}
 use Rattle.mix_top.specs.declared.report.ReportLine.TheVariants as lines
-use Rattle.mix_top.specs.declared.script.Event.{Event}
-use Rattle.mix_top.specs.declared.script.Event.TheVariants as events
 use Rattle.mix_top.specs.declared.book.Claim.{Claim}
 use Rattle.mix_top.specs.declared.book.Claim.TheVariants as claims
 use Rattle.sphinx_unwrap.specs.declared.outcome.Opened.{Opened}
@@ -141,8 +141,10 @@ moves setup old (events.Recv moment packet) lines new step = stays old (received
 moves setup old (events.Peel worker) lines new step = peel_moves setup old worker (worker_at old worker) lines new step
 moves setup old (events.Claim worker) lines new step = claim_moves setup old worker (worker_at old worker) lines new step
 moves setup old (events.Send moment) lines new step = send_moves old moment lines new step
+moves setup old (events.Rotate moment) lines new step = stays old old lines _ new refl refl refl step.0 step.1
+moves setup old (events.Arm shard calls) lines new step = stays old old lines _ new refl refl refl step.0 step.1
+moves setup old (events.Crash pick) lines new step = stays old old lines _ new refl refl refl step.0 step.1
 moves setup old events.Skip lines new step = stays old old lines _ new refl refl refl step.0 step.1
-moves setup old events.Later lines new step = stays old old lines _ new refl refl refl step.0 step.1
 
 -- a list before, at and behind an item's place
 at_place : (items : List Item) (place : ℕ) (item : Item) → slice_get items place ≡ Some item → items ≡ take place items ++ item ∷ drop (suc place) items

@@ -1,20 +1,20 @@
 -- A whole script is answered: from its node line and its events.
 use Rattle.std.proofs.Common.{◌≡◌, ℕ, ◌+◌, List, [], take, refl, ap, ◌∙◌, sym, subst, Option, Some, None, IfSome, option_map}
 use Rattle.mix_base.specs.declared.reading.Source.{Ghosts}
-use Rattle.lab_text.specs.Given.{Gave}
 use Rattle.lab_text.specs.Lines.{lines_from}
 use Rattle.lab_text.specs.Readers.{coming, lines_given}
+use Rattle.lab_text.specs.Script.{Events, Ending, AtEnd, Outside, NotBuilt}
 use Rattle.lab_text.specs.declared.lines.LineReader.{LineReader}
 use Rattle.lab_text.specs.declared.statuses.Status.{Status}
 use Rattle.lab_text.specs.declared.statuses.Status.TheVariants.{Done, Words, Line, ReadFault, WriteFault, Memory, Later}
+use Rattle.lab_text.specs.declared.events.Event.{Event}
 use Rattle.mix_top.proofs.Giving.{gave_nothing, gave_weaker}
 use Rattle.mix_top.proofs.HonestLines.{honest_nothing}
 use Rattle.mix_top.specs.Node.{new_node}
-use Rattle.mix_top.specs.Program.{Program, Events, Ending, AtEnd, Outside, NotBuilt, no_node, program_from, set_up}
+use Rattle.mix_top.specs.Program.{Program, no_node, program_from}
 use Rattle.mix_top.specs.Progress.{AnswersEvents, AnswersProgram, EndsAs, SetsUp, program_to_come}
 use Rattle.mix_top.specs.Promise.{Answers, AnswersScript, IsGiven, IsReportOf, Owes}
 use Rattle.mix_top.specs.declared.items.Setup.{Setup}
-use Rattle.mix_top.specs.declared.script.Event.{Event}
 
 -- the node line was read, and the events behind it were answered
 pub answers_from_setup : (setup : Setup) (program : Option Program) (events : Option Events) (status : Status) (before after : Option (List ℕ))

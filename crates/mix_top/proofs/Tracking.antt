@@ -12,12 +12,14 @@ use Rattle.lab_text.specs.declared.lines.LineReader.{LineReader}
 use Rattle.lab_text.specs.Statuses.{put_status}
 use Rattle.lab_text.specs.declared.statuses.Status.{Status}
 use Rattle.lab_text.specs.declared.statuses.Status.TheVariants.{Done, Words, Line, ReadFault, WriteFault, Memory, Later}
+use Rattle.lab_text.specs.Script.{Events, Ending, AtEnd, Outside, NotBuilt, ends, in_front}
+use Rattle.lab_text.specs.declared.events.Event.{Event}
 use Rattle.epoch_keys.specs.Epochs.{InRange}
 use Rattle.mix_top.proofs.Giving.{gave_nothing, gave_then, gave_weaker}
 use Rattle.mix_top.proofs.HonestLines.{Runs-push, honest_owed}
 use Rattle.mix_top.proofs.Once.{once_owed}
 use Rattle.mix_top.specs.Node.{NodeState, new_node}
-use Rattle.mix_top.specs.Program.{Program, Events, Ending, AtEnd, Outside, NotBuilt, ends, onto, set_up}
+use Rattle.mix_top.specs.Program.{Program, set_up}
 use Rattle.mix_top.specs.Progress.{Progress, Tracks, AnswersEvents, EndsAs, IsMet, IsCut, IsNext}
 use Rattle.mix_top.specs.Promise.{Answers, IsGiven, IsReportOfFirst, Owes}
 use Rattle.mix_top.specs.Report.{text, line_text}
@@ -25,7 +27,6 @@ use Rattle.mix_top.specs.Run.{Runs}
 use Rattle.mix_top.specs.Step.{Step}
 use Rattle.mix_top.specs.declared.items.Setup.{Setup}
 use Rattle.mix_top.specs.declared.report.ReportLine.{ReportLine}
-use Rattle.mix_top.specs.declared.script.Event.{Event}
 
 text-append : (report lines : List ReportLine) → text (report ++ lines) ≡ text report ++ text lines
 text-append report lines = flat_map-append line_text report lines
@@ -36,7 +37,7 @@ progress_begins setup whole given = record { done = []; report = []; list = refl
 
 -- one event was answered
 progress_goes_on : (setup : Setup) (whole rest more : Events) (node new : NodeState) (event : ℕ × Event) (before after last : Option (List ℕ))
-    → Progress setup whole rest node before after → rest ≡ onto event more → IsMet setup node event.1 new after last → Progress setup whole more new before last
+    → Progress setup whole rest node before after → rest ≡ in_front event more → IsMet setup node event.1 new after last → Progress setup whole more new before last
 progress_goes_on setup whole rest more node new event before after last so_far next (lines, step, given) = record {
   done = so_far.done ++ event ∷ [];
   report = so_far.report ++ lines;
@@ -111,7 +112,7 @@ up_to done event others =
 
 -- the report of the events up to one that was met
 met_events : (setup : Setup) (whole rest more : Events) (node : NodeState) (event : ℕ × Event) (before after : Option (List ℕ)) (lines : List ReportLine) (new : NodeState)
-    (so_far : Progress setup whole rest node before after) → rest ≡ onto event more → Step setup node event.1 lines new
+    (so_far : Progress setup whole rest node before after) → rest ≡ in_front event more → Step setup node event.1 lines new
     → IsReportOfFirst (set_up setup whole) (so_far.report ++ lines)
 met_events setup whole rest more node event before after lines new so_far next step =
     let all : whole.list ≡ so_far.done ++ event ∷ more.list = so_far.list ∙ ap (λ (r : Events). so_far.done ++ r.list) next in
@@ -144,7 +145,7 @@ given_at_fault puts.WriteFault report bytes front = front
 given_at_fault puts.Memory report bytes front = front
 
 finishes_cut : (setup : Setup) (whole rest more : Events) (node : NodeState) (event : ℕ × Event) (fault : PutFault) (before after last : Option (List ℕ)) → InRange setup.times
-    → Progress setup whole rest node before after → rest ≡ onto event more → IsCut setup node event.1 after last
+    → Progress setup whole rest node before after → rest ≡ in_front event more → IsCut setup node event.1 after last
     → Answers (set_up setup whole) (put_status fault) before last
 finishes_cut setup whole rest more node event fault before after last range so_far next (inl same) =
     answered setup whole (put_status fault) so_far.report before last range

@@ -6,14 +6,14 @@ use Rattle.epoch_keys.specs.Epochs.{is_live}
 use Rattle.epoch_keys.specs.Keys.{epoch_secret_key}
 use Rattle.sphinx_unwrap.specs.Outcome.{unwrapped}
 use Rattle.sphinx_unwrap.specs.declared.outcome.Opened.{Opened}
+use Rattle.lab_text.specs.declared.events.Event.{Event}
+use Rattle.lab_text.specs.declared.events.Event.TheVariants.{Recv, Peel, Claim, Send, Rotate, Arm, Crash, Skip}
 use Rattle.mix_top.specs.Node.{NodeState, new_node}
 use Rattle.mix_top.specs.Run.{Runs}
 use Rattle.mix_top.specs.declared.items.Arrival.{Arrival}
 use Rattle.mix_top.specs.declared.items.Item.{Item}
 use Rattle.mix_top.specs.declared.items.Setup.{Setup}
 use Rattle.mix_top.specs.declared.report.ReportLine.{ReportLine}
-use Rattle.mix_top.specs.declared.script.Event.{Event}
-use Rattle.mix_top.specs.declared.script.Event.TheVariants.{Recv, Peel, Claim, Send, Skip, Later}
 
 -- the packet that arrives by an event, with this number
 abbrev pub arrival_by : ℕ → Event → List Arrival
@@ -21,8 +21,10 @@ arrival_by number (Recv moment packet) = (record { number = number; at = moment;
 arrival_by number (Peel worker) = []
 arrival_by number (Claim worker) = []
 arrival_by number (Send moment) = []
+arrival_by number (Rotate moment) = []
+arrival_by number (Arm shard calls) = []
+arrival_by number (Crash pick) = []
 arrival_by number Skip = []
-arrival_by number Later = []
 
 -- the packets that arrive by events, numbered from this number on
 abbrev pub arrivals_from : ℕ → List (ℕ × Event) → List Arrival

@@ -1,8 +1,6 @@
--- The promise of `drive` and what it rests on, in this order: the words of the commands; the lines of a script, and the
--- script as a whole; a packet under the keys that are live; the journal, the node, its steps and its runs; the report
+-- The promise of `drive` and what it rests on, in this order: the words of the commands; a script as a whole; a packet under the keys that are live; the journal, the node, its steps and its runs; the report
 -- and its text; what makes a hand-on line honest; and the promise.
 pub mod Commands
-pub mod Script
 pub mod Program
 pub mod Keys
 pub mod Book

@@ -1,66 +1,54 @@
--- A script as what it asks for: how the node is set up, the events with the numbers of their lines, and how it ends.
+-- A script as what it asks for: how the node is set up, its events, and how it ends.
 use Rattle.std.specs.Prelude.{ℕ, ◌+◌, Bool, true, false, ◌==◌, ◌&&◌, not, if◌then◌else◌, List, [], ◌∷◌, Option, Some, None}
 use Rattle.prim_std.specs.Laboratory.{lab_scheme}
+use Rattle.epoch_keys.specs.Epochs.{EpochTimes}
 use Rattle.lab_text.specs.Lines.{ScriptLine, Text, TooLong, lines_from}
+use Rattle.lab_text.specs.NodeLines.{node_of, sizes_of}
+use Rattle.lab_text.specs.Script.{Ending, Outside, NotBuilt, Events, ends, events_from, in_front}
 use Rattle.lab_text.specs.Sizes.{geometry_of}
 use Rattle.lab_text.specs.Words.{words_of}
 use Rattle.lab_text.specs.WordForms.{says_nothing}
-use Rattle.mix_top.specs.Script.{event_of, node_of}
+use Rattle.lab_text.specs.declared.events.Event.{Event}
+use Rattle.lab_text.specs.declared.events.Event.TheVariants.{Recv, Peel, Claim, Send, Rotate, Arm, Crash, Skip}
+use Rattle.lab_text.specs.declared.node_lines.NodeLine.{NodeLine}
 use Rattle.mix_top.specs.declared.items.Setup.{Setup}
-use Rattle.mix_top.specs.declared.script.Event.{Event}
-use Rattle.mix_top.specs.declared.script.Event.TheVariants.{Recv, Peel, Claim, Send, Skip, Later}
-use Rattle.mix_top.specs.declared.script.NodeWords.{NodeWords}
 
--- where a script ends
-pub data Ending : Type 0 where
-  AtEnd : Ending
-  -- before the line of this number, which is outside the grammar
-  Outside : (line : ℕ) → Ending
-  -- before the line of this number, which asks for what isn't built yet
-  NotBuilt : (line : ℕ) → Ending
-
--- events with the numbers of their lines, and how the script ends behind them
-pub record Events : Type 0 where
-  pub list : List (ℕ × Event)
-  pub ending : Ending
-
--- no event before the end
-abbrev pub ends : Ending → Events
-ends ending = record { list = []; ending = ending }
-
--- an event, with the number of its line, in front of others
-abbrev pub onto : ℕ × Event → Events → Events
-onto event others = record { list = event ∷ others.list; ending = others.ending }
-
--- a line that asks for what isn't built yet
+-- an event that isn't built yet
 abbrev pub is_not_built : Event → Bool
-is_not_built Later = true
+is_not_built (Rotate moment) = true
+is_not_built (Arm shard calls) = true
+is_not_built (Crash pick) = true
 is_not_built (Recv moment packet) = false
 is_not_built (Peel worker) = false
 is_not_built (Claim worker) = false
 is_not_built (Send moment) = false
 is_not_built Skip = false
 
--- the events of a line and of those behind it
-abbrev pub then_event : ℕ → Option Event → Events → Events
-then_event number None others = ends (Outside number)
-then_event number (Some event) others = if is_not_built event then ends (NotBuilt number) else onto (number, event) others
+-- of events that end so, those before the first that isn't built yet; where there is such a one, they end at its line
+abbrev pub built_of : Ending → List (ℕ × Event) → Events
+built_of ending [] = ends ending
+built_of ending (event ∷ events) =
+    if is_not_built event.1 then ends (NotBuilt event.0) else in_front event (built_of ending events)
 
--- the events of lines, the first of which has this number, up to the first line that gives none
-abbrev pub events_from : ℕ → List ScriptLine → Events
-events_from number [] = ends AtEnd
-events_from number (TooLong ∷ lines) = ends (Outside number)
-events_from number (Text line ∷ lines) = then_event number (event_of 1 line) (events_from (number + 1) lines)
+-- the events of lines, the first of which has this number, in a node of so many shards: up to the first line that is
+-- outside the grammar or isn't built yet
+abbrev pub built_from : ℕ → ℕ → List ScriptLine → Events
+built_from shards number lines =
+    let events = events_from shards number lines in built_of events.ending events.list
 
 -- a node that is built: of the laboratory suite, with one shard
-abbrev pub is_built : NodeWords → Bool
-is_built node = not node.sizes.ntru && node.shards == 1
+abbrev pub is_built : NodeLine → Bool
+is_built node = not node.ntru && node.shards == 1
+
+-- its epochs
+abbrev pub times_of : NodeLine → EpochTimes
+times_of node = record { epoch = node.epoch; grace = node.grace }
 
 -- how it is set up
-abbrev pub setup_of : NodeWords → Setup
+abbrev pub setup_of : NodeLine → Setup
 setup_of node = record {
-  geometry = geometry_of lab_scheme.ciphertext node.sizes;
-  times = node.times;
+  geometry = geometry_of lab_scheme.ciphertext (sizes_of node);
+  times = times_of node;
   seed = node.seed;
 }
 
@@ -78,10 +66,11 @@ abbrev pub set_up : Setup → Events → Program
 set_up setup events = record { setup = Some setup; events = events }
 
 -- a script with this node line, and the lines behind it
-abbrev pub with_node : ℕ → Option NodeWords → List ScriptLine → Program
+abbrev pub with_node : ℕ → Option NodeLine → List ScriptLine → Program
 with_node number None lines = no_node (Outside number)
 with_node number (Some node) lines =
-    if is_built node then set_up (setup_of node) (events_from (number + 1) lines) else no_node (NotBuilt number)
+    if is_built node then set_up (setup_of node) (built_from node.shards (number + 1) lines)
+    else no_node (NotBuilt number)
 
 -- the script of lines, the first of which has this number: the first line that isn't skipped is the node line
 abbrev pub program_from : ℕ → List ScriptLine → Program

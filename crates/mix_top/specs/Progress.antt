@@ -5,27 +5,28 @@ use Rattle.prim_std.specs.Laboratory.{lab_scheme}
 use Rattle.epoch_keys.specs.Epochs.{InRange}
 use Rattle.lab_text.specs.Given.{Gave}
 use Rattle.lab_text.specs.Readers.{coming, lines_given}
+use Rattle.lab_text.specs.Script.{Ending, AtEnd, Outside, NotBuilt, Events, in_front}
 use Rattle.lab_text.specs.declared.lines.LineReader.{LineReader}
 use Rattle.lab_text.specs.declared.statuses.Status.{Status}
 use Rattle.lab_text.specs.declared.statuses.Status.TheVariants.{Done, Words, Line, ReadFault, WriteFault, Memory, Later}
+use Rattle.lab_text.specs.declared.events.Event.{Event}
 use Rattle.mix_top.specs.Node.{NodeState, new_node}
-use Rattle.mix_top.specs.Program.{Ending, AtEnd, Outside, NotBuilt, Events, Program, events_from, onto, program_from, set_up}
+use Rattle.mix_top.specs.Program.{Program, built_from, program_from, set_up}
 use Rattle.mix_top.specs.Promise.{Answers}
 use Rattle.mix_top.specs.Report.{text}
 use Rattle.mix_top.specs.Run.{Runs}
 use Rattle.mix_top.specs.Step.{Step}
 use Rattle.mix_top.specs.declared.items.Setup.{Setup}
 use Rattle.mix_top.specs.declared.report.ReportLine.{ReportLine}
-use Rattle.mix_top.specs.declared.script.Event.{Event}
 
 -- a setup that a node is built for: the laboratory's ciphertext, and times that may be chosen
 pub record IsServed (setup : Setup) : Type 0 where
   pub laboratory : setup.geometry.ct ≡ lab_scheme.ciphertext
   pub times : InRange setup.times
 
--- the events to come, where the source tells what is left
+-- the events to come of a node with one shard, where the source tells what is left
 abbrev pub events_to_come : {I : Type 0} {G : Ghosts I} → LineReader I G → Option Events
-events_to_come reader = option_map (events_from (lines_given reader + 1)) (coming reader)
+events_to_come reader = option_map (built_from 1 (lines_given reader + 1)) (coming reader)
 
 -- the program to come, where the source tells what is left
 abbrev pub program_to_come : {I : Type 0} {G : Ghosts I} → LineReader I G → Option Program
@@ -43,7 +44,7 @@ EndsAs stop input WriteFault = ⊥
 
 -- an event, with the number of its line, is the next of those to come
 abbrev pub IsNext : ℕ × Event → Option Events → Option Events → Type 0
-IsNext event before after = IfSome before (λ now. IsSomeAnd after (λ others. now ≡ onto event others))
+IsNext event before after = IfSome before (λ now. IsSomeAnd after (λ others. now ≡ in_front event others))
 
 -- the node line of the program to come was read: the events behind it are to come
 abbrev pub SetsUp : Setup → Option Program → Option Events → Type 0

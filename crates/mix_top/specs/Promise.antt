@@ -1,18 +1,19 @@
 -- The promise of `drive` for a script: a report, by how the call ends, and what is true of its hand-on lines.
 use Rattle.std.specs.Prelude.{◌≡◌, ℕ, List, [], ◌∷◌, ◌++◌, take, Option, Some, None, IfSome, IsSomeAnd}
 use Rattle.lab_text.specs.Given.{Gave}
+use Rattle.lab_text.specs.Script.{Ending, AtEnd, Outside, NotBuilt}
 use Rattle.lab_text.specs.declared.statuses.Status.{Status}
 use Rattle.lab_text.specs.declared.statuses.Status.TheVariants.{Done, Words, Line, ReadFault, WriteFault, Memory, Later}
+use Rattle.lab_text.specs.declared.events.Event.{Event}
 use Rattle.mix_top.specs.Honest.{IsHonest}
 use Rattle.mix_top.specs.Node.{NodeState, new_node}
-use Rattle.mix_top.specs.Program.{Program, Ending, AtEnd, Outside, NotBuilt, program_of}
+use Rattle.mix_top.specs.Program.{Program, program_of}
 use Rattle.mix_top.specs.Report.{text, handed, NoneTwice}
 use Rattle.mix_top.specs.Run.{Runs}
 use Rattle.mix_top.specs.declared.items.Item.{Item}
 use Rattle.mix_top.specs.declared.items.Setup.{Setup}
 use Rattle.mix_top.specs.declared.report.ReportLine.{ReportLine}
 use Rattle.mix_top.specs.declared.report.ReportLine.TheVariants.{Handed}
-use Rattle.mix_top.specs.declared.script.Event.{Event}
 
 -- a new node goes through the events, from the first to the last, and gives this report
 abbrev pub IsReportOf : Option Setup → List (ℕ × Event) → List ReportLine → Type 0

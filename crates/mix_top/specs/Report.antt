@@ -1,5 +1,5 @@
 -- The report's lines as text, and which packets they hand on.
-use Rattle.std.specs.Prelude.{⊤, ℕ, List, [], ◌∷◌, ◌++◌, codes, flat_map, Contains, Option, Some, None}
+use Rattle.std.specs.Prelude.{⊤, ℕ, List, [], ◌∷◌, codes, flat_map, Contains, Option, Some, None}
 use Rattle.std.specs.Fmt.{decimal}
 use Rattle.hex.specs.Hex.{encode_lower}
 use Rattle.sphinx_unwrap.specs.declared.outcome.Out.{Out}

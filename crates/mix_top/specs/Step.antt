@@ -3,6 +3,8 @@ use Rattle.std.specs.Prelude.{◌≡◌, ℕ, ◌+◌, ◌<◌, ◌≤◌, ◌�
 use Rattle.sphinx_unwrap.specs.declared.outcome.Opened.{Opened}
 use Rattle.sphinx_unwrap.specs.declared.faults.Refused.{Refused}
 use Rattle.epoch_keys.specs.Epochs.{least_live}
+use Rattle.lab_text.specs.declared.events.Event.{Event}
+use Rattle.lab_text.specs.declared.events.Event.TheVariants as events
 use Rattle.mix_top.specs.Keys.{opened_at}
 use Rattle.mix_top.specs.Book.{Book, Claims}
 use Rattle.mix_top.specs.declared.book.Claim.{Claim}
@@ -13,8 +15,6 @@ use Rattle.mix_top.specs.declared.items.Item.{Item}
 use Rattle.mix_top.specs.declared.items.Setup.{Setup}
 use Rattle.mix_top.specs.declared.report.ReportLine.{ReportLine}
 use Rattle.mix_top.specs.declared.report.ReportLine.TheVariants.{Refuse, Idle, Busy, Retired, Spent, Empty, Handed, NoneDue}
-use Rattle.mix_top.specs.declared.script.Event.{Event}
-use Rattle.mix_top.specs.declared.script.Event.TheVariants as events
 
 -- a packet arrives, and gets the next number
 abbrev pub received : NodeState → ℕ → List ℕ → NodeState
@@ -94,11 +94,13 @@ Sends old moment lines new =
     ⊎ ((place : ℕ) × (item : Item) × IsFirstDue old.held moment place item
     × (lines ≡ Handed item ∷ []) × (new ≡ record old { held = remove old.held place }))
 
--- one event, with the lines that it gives; a script ends before a line of a form that isn't built yet
+-- one event, with the lines that it gives; a script ends before an event that isn't built yet
 abbrev pub Step : Setup → NodeState → Event → List ReportLine → NodeState → Type 0
 Step setup old (events.Recv moment packet) lines new = (lines ≡ []) × (new ≡ received old moment packet)
 Step setup old (events.Peel worker) lines new = peeled setup old worker ≡ Some (lines, new)
 Step setup old (events.Claim worker) lines new = ClaimsFor setup old worker (worker_at old worker) lines new
 Step setup old (events.Send moment) lines new = Sends old moment lines new
+Step setup old (events.Rotate moment) lines new = (lines ≡ []) × (new ≡ old)
+Step setup old (events.Arm shard calls) lines new = (lines ≡ []) × (new ≡ old)
+Step setup old (events.Crash pick) lines new = (lines ≡ []) × (new ≡ old)
 Step setup old events.Skip lines new = (lines ≡ []) × (new ≡ old)
-Step setup old events.Later lines new = (lines ≡ []) × (new ≡ old)

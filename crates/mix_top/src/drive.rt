@@ -5,15 +5,17 @@ ghost use Rattle.std.specs.Prelude.{IfSome, IfNone, IsErrOf, IsSome, IfSome};
 ghost use Rattle.std.specs.Option.{option_to_list};
 ghost use Rattle.mix_base.specs.Faults.{Rose};
 ghost use Rattle.prim_std.specs.Laboratory.{lab_scheme};
+ghost use Rattle.lab_text.specs.Events.{IsEventInRange};
 ghost use Rattle.lab_text.specs.Lines.{ScriptLine};
+ghost use Rattle.lab_text.specs.NodeLines.{IsNodeInRange, node_of};
 ghost use Rattle.lab_text.specs.Outcomes.{EndsReading};
 ghost use Rattle.lab_text.specs.Readers.{source_of, lines_given, ReachesEnd, SourceGoesOn};
+ghost use Rattle.lab_text.specs.Script.{ends};
 ghost use Rattle.mix_top.specs.Node.{new_node};
-ghost use Rattle.mix_top.specs.Program.{ends, events_from, is_not_built, no_node, set_up, with_node};
+ghost use Rattle.mix_top.specs.Program.{built_from, is_not_built, no_node, set_up, setup_of, with_node};
 ghost use Rattle.mix_top.specs.Progress.{AnswersEvents, AnswersProgram, EndsAs, GaveFront, GaveText, IsCut, IsMet};
 ghost use Rattle.mix_top.specs.Progress.{IsNext, IsServed, SetsUp, events_to_come, program_to_come};
 ghost use Rattle.mix_top.specs.Promise.{AnswersScript};
-ghost use Rattle.mix_top.specs.Script.{IsEventInRange, node_of};
 ghost use Rattle.mix_top.specs.Seen.{seen};
 ghost use Rattle.mix_top.specs.Step.{Step};
 
@@ -21,24 +23,30 @@ use crate::items::Setup;
 use crate::moments::Moment;
 use crate::node::Node;
 use crate::report::{ReportLine, spell};
-use crate::script::{Event, node_words, read_event};
-use lab_text::{LineReader, Status, is_skipped};
+use epoch_keys::Times;
+use lab_text::{Event, LineReader, NodeLine, Status, is_skipped, read_event, read_node};
 use mix_base::{Kem, Memory, PutFault, Sink, Source};
 use prim_std::LabKem;
 use std::alloc::Global;
 
-/// Whether the event is of a form that isn't built yet.
+/// The shards of a node: one is built.
+const SHARDS: u8 = 1;
+
+/// Whether the event isn't built yet.
 fn is_later(event: &Event) -> bool
     ensures { result ≡ is_not_built event.now }
 {
-    matches!(event, Event::Later)
+    matches!(
+        event,
+        Event::Rotate { .. } | Event::Arm { .. } | Event::Crash { .. }
+    )
 }
 
 /// The next event, or None at the script's end.
 fn next_event<I: Source>(alloc: Global, reader: &mut LineReader<I>) -> Result<Option<Event>, Status>
     ensures event { IfOk result (λ next. IfSome next (λ event.
         IsNext (lines_given reader.new, event) (events_to_come reader.old) (events_to_come reader.new))) }
-    ensures in_range { IfOk result (λ next. IfSome next IsEventInRange) }
+    ensures in_range { IfOk result (λ next. IfSome next (IsEventInRange 1)) }
     ensures counted { IfOk result (λ next.
         IsSome next → lines_given reader.new ≡ lines_given reader.old + 1) }
     ensures none { IfOk result (λ next. IfNone next
@@ -55,7 +63,7 @@ fn next_event<I: Source>(alloc: Global, reader: &mut LineReader<I>) -> Result<Op
     let Some(line) = reader.next_line(alloc)? else {
         return Ok(None);
     };
-    let event = read_event(alloc, line.as_slice(), reader.number(), 1)?;
+    let event = read_event(alloc, line.as_slice(), reader.number(), SHARDS)?;
     if is_later(&event) {
         return Err(Status::Later {
             line: reader.number(),
@@ -66,7 +74,7 @@ fn next_event<I: Source>(alloc: Global, reader: &mut LineReader<I>) -> Result<Op
 
 /// One event at the node: the line that it gives, if any.
 fn do_event(alloc: Global, node: &mut Node, event: Event) -> Result<Option<ReportLine>, Memory>
-    requires in_range { IsEventInRange event }
+    requires in_range { IsEventInRange 1 event }
     requires room { node.old.next < 2 ^ 64 - 1 }
     requires laboratory { node.old.setup.geometry.ct ≡ lab_scheme.ciphertext }
     ensures step { IfOk result (λ line.
@@ -82,7 +90,7 @@ fn do_event(alloc: Global, node: &mut Node, event: Event) -> Result<Option<Repor
         Event::Peel { worker } => node.peel(alloc, worker),
         Event::Claim { worker } => node.claim(worker),
         Event::Send { moment } => Ok(Some(node.send(Moment::new(moment)))),
-        Event::Skip | Event::Later => Ok(None),
+        Event::Rotate { .. } | Event::Arm { .. } | Event::Crash { .. } | Event::Skip => Ok(None),
     }
 }
 
@@ -104,7 +112,7 @@ fn serve<O: Sink>(
     sink: &mut O,
     event: Event,
 ) -> Result<(), PutFault>
-    requires in_range { IsEventInRange event }
+    requires in_range { IsEventInRange 1 event }
     requires room { node.old.next < 2 ^ 64 - 1 }
     requires laboratory { node.old.setup.geometry.ct ≡ lab_scheme.ciphertext }
     ensures met { OnOk result (IsMet node.old.setup (seen node.old) event (seen node.new)
@@ -125,24 +133,33 @@ fn serve<O: Sink>(
 /// How the node is set up, by its line, at this number.
 fn setup_in(line: &[u8], number: u64) -> Result<Setup, Status>
     ensures setup { IfOk result (λ setup. (lines : List ScriptLine) →
-        with_node number (node_of line.now) lines ≡ set_up setup (events_from (number + 1) lines)) }
+        with_node number (node_of line.now) lines ≡ set_up setup (built_from 1 (number + 1) lines)) }
     ensures served { IfOk result IsServed }
     ensures stops { IfErr result (λ status. (lines : List ScriptLine) →
         EndsAs no_node (with_node number (node_of line.now) lines) status) }
     ensures kind { IfErr result EndsReading }
     ensures no_read { IsErrOf result Status.ReadFault → ⊥ }
 {
-    let Some(node) = node_words(line) else {
-        return Err(Status::Line { line: number });
-    };
-    if node.sizes.ntru || node.shards != 1 {
+    let node = read_node(line, number)?;
+    if node.ntru || node.shards != SHARDS {
         return Err(Status::Later { line: number });
     }
-    Ok(Setup {
-        geometry: node.sizes.geometry(LabKem::CT),
-        times: node.times,
+    Ok(setup_by(&node))
+}
+
+/// How the node of a node line is set up.
+fn setup_by(node: &NodeLine) -> Setup
+    requires in_range { IsNodeInRange node.now }
+    ensures { result ≡ setup_of node.now }
+{
+    let Ok(times) = Times::new(node.epoch, node.grace) else {
+        unreachable!()
+    };
+    Setup {
+        geometry: node.sizes().geometry(LabKem::CT),
+        times,
         seed: node.seed,
-    })
+    }
 }
 
 /// How the node is set up, by the first line that isn't skipped.

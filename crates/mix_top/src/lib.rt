@@ -10,9 +10,7 @@ mod keys;
 mod moments;
 mod node;
 mod report;
-mod script;
 #[cfg(test)]
 mod tests;
 
 pub use command::mix_command;
-pub use script::{Event, NodeLine, read_event, read_node};

@@ -1,6 +1,5 @@
 // What no proof sees: that lines and texts come out as meant, and that whole scripts answer as they are owed.
 mod ample_memory;
 mod packets;
-mod script_lines;
 mod there_and_back;
 mod whole_scripts;

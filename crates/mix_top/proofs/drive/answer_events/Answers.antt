@@ -1,12 +1,11 @@
 use Rattle.std.proofs.Common.{rules, arith, ◌≡◌, ◌∙◌, Option, ◌+◌, IsSome, IfNone, IfSome, subst}
 use Rattle.std.proofs.lemmas.Result.{err_from_is_err_and}
-use Rattle.epoch_keys.specs.Epochs.{InRange}
 use Rattle.lab_text.specs.Readers.{ReachesEnd, lines_given, source_of}
+use Rattle.lab_text.specs.Script.{ends}
 use Rattle.lab_text.specs.declared.statuses.Status.TheVariants.{Done}
-use Rattle.mix_top.specs.Program.{Events, ends}
+use Rattle.lab_text.specs.declared.events.Event.{Event}
 use Rattle.mix_top.specs.Progress.{EndsAs, IsCut, IsMet, IsNext, events_to_come}
 use Rattle.mix_top.specs.Seen.{seen}
-use Rattle.mix_top.specs.declared.script.Event.{Event}
 use Rattle.mix_top.proofs.Tracking.{reaches_end, source_goes_on, tracks_cut, tracks_go_on, tracks_stop}
 use Rattle.mix_top.proofs.drive.answer_events.Goals as goal
 
