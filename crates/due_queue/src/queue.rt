@@ -116,6 +116,14 @@ impl<T: Due> DueQueue<T> {
         Some(next_of(&self.items[place]))
     }
 
+    /// Lets go of all items, and of the room for others. Takes no memory.
+    pub fn clear(&mut self)
+        ensures { self.new ≡ record { items = []; kept = [] } }
+    {
+        self.items.clear();
+        self.reserved.clear();
+    }
+
     /// How many items it holds.
     pub fn len(&self) -> usize
         ensures { result ≡ length self.now.items }

@@ -6,7 +6,7 @@ use Rattle.std.specs.Cmp.Derive.{both_true}
 use Rattle.std.proofs.lemmas.Bool.{cases_lt, cases_eq, ltb-true, lt-ltb, leb-true, le-leb}
 use Rattle.std.proofs.lemmas.List.Elements.{filter_passes, All-contains}
 use Rattle.mix_base.proofs.Members.{Contains-cons_cases, Contains-filter, Contains-head, Contains-tail}
-use Rattle.epoch_keys.specs.Epochs.{EpochTimes, InRange, is_live, current, neighbours, live_epochs}
+use Rattle.epoch_keys.specs.Epochs.{EpochTimes, InRange, is_live, current, neighbours, live_epochs, least_live}
 
 -- a moment lies in its current epoch
 in_current : (times : EpochTimes) (moment : ℕ) → InRange times → (current times moment * times.epoch ≤ moment) × (moment < current times moment * times.epoch + times.epoch)
@@ -183,3 +183,33 @@ pub alone : (times : EpochTimes) (moment : ℕ) → InRange times
 alone times moment range late early =
     let middle : ℕ = current times moment in
     rw (alone_live times middle moment range (in_current times moment range) late early)
+
+-- ---- the least live epoch
+
+-- where an epoch ends before a moment less the grace, by how far
+least_within : (times : EpochTimes) (moment : ℕ) → InRange times
+    → (least_live times moment * times.epoch ≤ moment - times.grace) × (moment - times.grace < least_live times moment * times.epoch + times.epoch)
+least_within times moment range =
+    let whole = div-add-mod (moment - times.grace) times.epoch in
+    let rest : (moment - times.grace) % times.epoch < times.epoch = mod-lt (moment - times.grace) (omega (arith, range.low)) in
+    (omega (arith, whole), omega (arith, whole, rest))
+
+-- a live epoch is the least one or the one above it
+pub near_least : (times : EpochTimes) (moment : ℕ) → InRange times → (epoch : ℕ) → Contains (live_epochs times moment) epoch
+    → (least_live times moment ≤ epoch) × (epoch ≤ least_live times moment + 1)
+near_least times moment range epoch listed =
+    let facts = live_facts times epoch moment ((live_exactly times moment range epoch).1 listed) in
+    let lies = least_within times moment range in (
+      elim (cases_lt epoch (least_live times moment)) [
+        | inl below ↦
+            let far : (epoch + 1) * times.epoch ≤ least_live times moment * times.epoch = mul-le-mul_right times.epoch (omega (arith, below)) in
+            absurd (omega (arith, far, lies.0, facts.1, range.low))
+        | inr least ↦ least
+      ],
+      elim (cases_lt (least_live times moment + 1) epoch) [
+        | inl above ↦
+            let far : (least_live times moment + 2) * times.epoch ≤ epoch * times.epoch = mul-le-mul_right times.epoch (omega (arith, above)) in
+            absurd (omega (arith, far, lies.1, facts.0, range.low, range.quarter))
+        | inr close ↦ close
+      ],
+    )

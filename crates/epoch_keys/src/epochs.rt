@@ -1,5 +1,5 @@
 // Epochs of time: each is live for a while before it begins and after it ends, so at a moment one or two are.
-ghost use Rattle.std.specs.Prelude.{◌≡◌, ℕ, ◌^◌, ◌<◌, ◌≤◌, ◌↔◌, ◌∷◌, IsTrue, Contains};
+ghost use Rattle.std.specs.Prelude.{◌≡◌, ℕ, ◌+◌, ◌^◌, ◌<◌, ◌≤◌, ◌↔◌, ◌∷◌, IsTrue, Contains};
 ghost use Rattle.std.specs.Option.{option_to_list};
 ghost use Rattle.epoch_keys.specs.Epochs.{is_live, current, live_epochs};
 ghost use Rattle.epoch_keys.specs.Epochs as epochs;
@@ -35,6 +35,7 @@ pub fn least_live(moment: u64, times: &Times) -> u64
     ensures value { result ≡ epochs.least_live times.now moment }
     ensures live { IsTrue (is_live times.now result moment) }
     ensures least { (epoch : ℕ) → IsTrue (is_live times.now epoch moment) → result ≤ epoch }
+    ensures near { (epoch : ℕ) → Contains (live_epochs times.now moment) epoch → (result ≤ epoch) × (epoch ≤ result + 1) }
 {
     moment.saturating_sub(times.grace()) / times.epoch()
 }
