@@ -1,0 +1,11 @@
+mod Chains
+mod Changes
+mod Claims
+mod Covering
+mod Draining
+mod Holding
+mod Keeping
+mod Openings
+mod Rooms
+mod Spares
+mod Tales
