@@ -1,0 +1,7 @@
+pub mod Changing
+pub mod Claiming
+pub mod Crashing
+pub mod Making
+pub mod Places
+pub mod Sending
+pub mod Waiting

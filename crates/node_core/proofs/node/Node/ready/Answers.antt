@@ -1,0 +1,39 @@
+use Rattle.std.proofs.Common.{◌<◌, ◌∙◌, sym, refl, subst}
+use Rattle.node_core.specs.Nodes.{NodeState}
+use Rattle.std.proofs.lemmas.Option.{slice_get_read}
+use Rattle.node_core.proofs.Changing.{is_caller, terms_of_ready}
+use Rattle.node_core.proofs.Places.{with_shard}
+use Rattle.node_core.proofs.node.Node.ready.Goals as goal
+
+pub ready-requires-after_bounds : goal.ready-requires-after_bounds
+ready-requires-after_bounds g c κs within =
+    let there = slice_get_read c.self.inside.shards.items c.self.inside.setup.shards c.args.shard c.index_mut.result.now
+    (sym c.self.invariant.0.count) (subst (λ (node : NodeState). c.args.shard < node.setup.shards) (sym c.self.view_is) c.requires) c.index_mut.ensures.value in
+    is_caller g.R.Rack.tells g.S.Suite.meaning c.self.inside.setup c.args.shard c.index_mut.result.now (c.self.invariant.0.each c.args.shard c.index_mut.result.now there)
+
+pub invariant_of-self : goal.invariant_of-self
+invariant_of-self g c =
+    let there = slice_get_read c.self.inside.shards.items c.self.inside.setup.shards c.args.shard c.index_mut.result.now
+    (sym c.self.invariant.0.count) (subst (λ (node : NodeState). c.args.shard < node.setup.shards) (sym c.self.view_is) c.requires) c.index_mut.ensures.value in
+    let is = c.self.invariant.0.each c.args.shard c.index_mut.result.now there in (
+      with_shard g.R.Rack.tells g.S.Suite.meaning c.self.inside.setup c.self.inside.shards.items c.args.shard c.index_mut.result.now c.ready.new.self
+          c.self.invariant.0 there (record { terms = terms_of_ready g.R.Rack.tells g.S.Suite.meaning c.index_mut.result.now c.ready.new.self c.ready.result (record { ok = c.ready.ensures.ok; refused = c.ready.ensures.refused; objection = c.ready.ensures.objection; among = c.ready.ensures.among; each_moment = c.ready.ensures.each_moment; owes = c.ready.ensures.owes }) ∙ is.terms; active = c.ready.ensures.callers ∙ is.active; kept = c.ready.ensures.kept }),
+      c.self.invariant.1,
+      c.self.invariant.2,
+      c.self.invariant.3,
+      c.self.invariant.4,
+      c.self.invariant.5,
+      c.self.invariant.6,
+    )
+
+pub returns : goal.returns
+returns g c =
+    let there = slice_get_read c.self.inside.shards.items c.self.inside.setup.shards c.args.shard c.index_mut.result.now
+    (sym c.self.invariant.0.count) (subst (λ (node : NodeState). c.args.shard < node.setup.shards) (sym c.self.view_is) c.requires) c.index_mut.ensures.value in
+    rw (← c.self.view_is) (record {
+      before = c.index_mut.result.now;
+      after = c.ready.new.self;
+      there = there;
+      changes = record { ok = c.ready.ensures.ok; refused = c.ready.ensures.refused; objection = c.ready.ensures.objection; among = c.ready.ensures.among; each_moment = c.ready.ensures.each_moment; owes = c.ready.ensures.owes };
+      new_is = refl;
+    })

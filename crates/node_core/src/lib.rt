@@ -1,0 +1,14 @@
+//! A node without threads: arrivals, four workers and shards. Each call is one event, and does what the definition's step
+//! does to the node's own state.
+#![tactic(auto)]
+
+mod answers;
+mod arrivals;
+mod node;
+mod setup;
+#[cfg(test)]
+mod tests;
+
+pub use answers::{Claimed, NodePeel, Peeled};
+pub use node::Node;
+pub use setup::NodeSetup;
