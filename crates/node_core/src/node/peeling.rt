@@ -1,10 +1,10 @@
 // A worker unwraps the oldest arrival.
-ghost use Rattle.std.specs.Prelude.{◌≡◌, ℕ, [], ◌∷◌, ◌^◌, ◌<◌, true, false, drop, slice_index_or, Some, None, IsSome, IfNone, IfOk, IfSome, IfErr, OnErr};
+ghost use Rattle.std.specs.Prelude.{◌≡◌, ◌≢◌, ℕ, [], ◌∷◌, ◌^◌, ◌<◌, true, false, drop, slice_index_or, Some, None, IsSome, IfNone, IfOk, IfSome, IfErr, OnErr};
 ghost use Rattle.epoch_keys.specs.Epochs.{live_epochs};
 ghost use Rattle.epoch_keys.specs.Keys.{first_without_pair};
 ghost use Rattle.mix_shard.specs.Items as items;
 ghost use Rattle.node_core.specs.Nodes.{packets_setup};
-ghost use Rattle.node_core.specs.Steps.{IfUnkeyed, NamesNoKey, peeled};
+ghost use Rattle.node_core.specs.Steps.{IfUnkeyed, NamesNoKey, peeled, worker_at};
 
 use super::Node;
 use crate::answers::{NodePeel, Peeled};
@@ -29,6 +29,9 @@ impl<R: CrashRack, S: Suite> Node<R, S> {
             peeled S.meaning self.old worker ≡ Some (answer, self.new)) }
         ensures refused { OnErr result (self.new ≡ self.old) }
         ensures no_key { IfErr result (NamesNoKey S.meaning self.old) }
+        // A fault comes only where a worker that holds nothing meets an arrival.
+        ensures free { OnErr result (worker_at self.old worker ≡ None) }
+        ensures waits { OnErr result (self.old.arrivals ≢ []) }
         ensures setup { self.new.setup ≡ self.old.setup }
         ensures next { self.new.next ≡ self.old.next }
     {
