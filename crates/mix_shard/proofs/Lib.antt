@@ -1,11 +1,11 @@
 mod Chains
 mod Changes
 mod Claims
-mod Covering
+pub mod Covering
 mod Draining
-mod Holding
+pub mod Holding
 mod Keeping
 mod Openings
 mod Rooms
 mod Spares
-mod Tales
+pub mod Tales

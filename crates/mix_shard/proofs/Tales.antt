@@ -4,6 +4,7 @@ use Rattle.std.proofs.lemmas.List.{append_assoc, append-nil}
 use Rattle.mix_base.specs.Suites.{SuiteMeaning}
 use Rattle.mix_base.specs.declared.shards.Shape.{Shape}
 use Rattle.spent_store.specs.Journals.{Journal, unopened}
+use Rattle.mix_shard.specs.Shards.{SameButRack, ShardState, Unopened}
 use Rattle.mix_shard.specs.Tale.{State, Step, Steps, Tale, Unheard, unopened_by}
 use Rattle.mix_shard.specs.declared.entries.Told.{Told}
 use Rattle.mix_shard.specs.declared.terms.Terms.{Terms}
@@ -82,3 +83,21 @@ module _ (tells : Type 0) (suite : SuiteMeaning) (terms : Terms) where
       → Steps tells suite terms b second c → Steps tells suite terms a (first ++ second) c
   steps_then a b c [] second same steps = subst (λ (state : State). Steps tells suite terms state second c) same steps
   steps_then a b c (one ∷ first) second steps more = (steps.0, steps.1, steps_then steps.0 b c first second steps.2 more)
+
+  -- entries with nothing between them are a tale
+  pub tale_of_steps : (old new : State) (tale : List Told) → Steps tells suite terms old tale new → Tale tells suite terms old tale new
+  tale_of_steps old new [] same = subst (λ (state : State). Unheard terms.shape old state) (sym same) (unheard_none terms.shape old)
+  tale_of_steps old new (one ∷ others) steps = (old, steps.0, unheard_none terms.shape old, steps.1, tale_of_steps steps.0 new others steps.2)
+
+-- ---- calls that tell nothing
+
+module _ (tells : Type 0) (suite : SuiteMeaning) (old new : ShardState) where
+  -- an opening that failed is a tale of no entry
+  pub unopened_told : Unopened old new → Tale tells suite old.terms old.state [] new.state
+  unopened_told failed =
+      subst (λ (state : State). Unheard old.terms.shape old.state state) (sym failed.state) (unheard_once old.terms.shape old.state failed.unsound)
+
+  -- and so is what changes the rack alone
+  pub same_told : SameButRack old new → Tale tells suite old.terms old.state [] new.state
+  same_told same =
+      subst (λ (state : State). Unheard old.terms.shape old.state state) (sym same.state) (unheard_none old.terms.shape old.state)
