@@ -1,5 +1,5 @@
 -- A worker's packet is claimed at the shard of its tag.
-use Rattle.std.proofs.Common.{◌≡◌, ℕ, zero, suc, List, [], ◌∷◌, get_or, set, Option, Some, None, Result, ap, subst}
+use Rattle.std.proofs.Common.{◌≡◌, ℕ, zero, suc, List, [], ◌∷◌, get_or, set, Option, Some, None, Result, ap, subst, ◌∙◌}
 use Rattle.std.specs.List.{All, slice_get}
 use Rattle.std.proofs.lemmas.List.Elements.{All-head, All-tail}
 use Rattle.mix_base.specs.Suites.{SuiteMeaning}
@@ -20,12 +20,12 @@ held_setup setup (first ∷ others) (suc worker) item all holds = held_setup set
 
 pub item_claimed : (tells : Type 0) (suite : SuiteMeaning) (worker : ℕ) (item : Item) (answer : Claimed) (old : NodeState) (before after : ShardState) (place : ℕ)
     (result : Result (Unit {0}) Denied) → worker_at old worker ≡ Some item → place ≡ place_of old.setup item.tag → slice_get old.shards place ≡ Some before
-    → Admits tells suite item result before after → answer ≡ claimed_by item.number result
+    → Admits tells suite item result before after → answer ≡ claimed_by item.number place result
     → ClaimsFor tells suite worker (worker_at old worker) answer old (record old { workers = set old.workers worker None; shards = set old.shards place after })
 item_claimed tells suite worker item answer old before after place result holds at there admits answer_is =
     rw (holds) (record {
       result = result;
-      answer_is = answer_is;
+      answer_is = answer_is ∙ ap (λ (p : ℕ). claimed_by item.number p result) at;
       asks = record {
         before = before;
         after = after;

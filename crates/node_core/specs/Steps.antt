@@ -97,15 +97,15 @@ pub record Admits (tells : Type 0) (suite : SuiteMeaning) (item : Item) (result 
   pub each_moment : tells → IsCharted old → OpensThroughout (through_claim old item) old new
   pub owes : OwesFor (opening_calls old + 14) (IsErrOf result denied.Disk) old new
 
--- the answer of a shard, as the node's
-abbrev pub claimed_by : ℕ → Result (Unit {0}) Denied → Claimed
-claimed_by number (Ok _) = claimed.Accepted number
-claimed_by number (Err why) = claimed.Denied number why
+-- the answer of the shard of a place, as the node's
+abbrev pub claimed_by : ℕ → ℕ → Result (Unit {0}) Denied → Claimed
+claimed_by number shard (Ok _) = claimed.Accepted number
+claimed_by number shard (Err why) = claimed.Denied number shard why
 
 -- the shard of the item's tag is asked, and the worker holds nothing any more
 pub record ClaimsItem (tells : Type 0) (suite : SuiteMeaning) (worker : ℕ) (item : Item) (answer : Claimed) (old new : NodeState) : Type 0 where
   pub result : Result (Unit {0}) Denied
-  pub answer_is : answer ≡ claimed_by item.number result
+  pub answer_is : answer ≡ claimed_by item.number (place_of old.setup item.tag) result
   pub asks : AtShard (Admits tells suite item result) (place_of old.setup item.tag) (record old { workers = slice_set old.workers worker None }) new
 
 abbrev pub ClaimsFor : Type 0 → SuiteMeaning → ℕ → Option Item → Claimed → NodeState → NodeState → Type 0

@@ -58,8 +58,8 @@ impl From<AllocError> for NodePeel {
 pub enum Claimed {
     /// The packet of this arrival is held until it is due.
     Accepted { number: u64 },
-    /// The packet of this arrival is refused, and gone.
-    Denied { number: u64, why: Denied },
+    /// The packet of this arrival was claimed at the shard of this place, and is refused, and gone.
+    Denied { number: u64, shard: u8, why: Denied },
     /// The worker holds nothing.
     Empty,
 }

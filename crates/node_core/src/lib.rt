@@ -4,11 +4,13 @@
 
 mod answers;
 mod arrivals;
+mod hand_on;
 mod node;
 mod setup;
 #[cfg(test)]
 mod tests;
 
 pub use answers::{Claimed, NodePeel, Peeled};
+pub use hand_on::write_held;
 pub use node::Node;
 pub use setup::NodeSetup;

@@ -75,6 +75,9 @@ impl<R: CrashRack, S: Suite> Node<R, S> {
         requires moment { moment < 2 ^ 60 }
         ensures ok { OnOk result (self.new ≡ received self.old moment packet.items) }
         ensures refused { OnErr result (self.new ≡ self.old) }
+        ensures kept { AreShardsOf R.tells S.meaning self.new.setup self.new.shards }
+        ensures setup { self.new.setup ≡ self.old.setup }
+        ensures next { self.new.next ≤ self.old.next + 1 }
     {
         self.arrivals.push_back(Arrival {
             number: self.next,

@@ -1,10 +1,10 @@
 // A node of two shards over racks in memory, for the laboratory suite.
 ghost use Rattle.std.specs.Prelude.{◌≡◌, IfOk};
 
-use crate::{Claimed, Node, NodeSetup, Peeled};
+use crate::{Claimed, Node, NodeSetup, Peeled, write_held};
 use epoch_keys::{Times, epoch_pair};
-use mix_base::Bytes;
-use mix_shard::Denied;
+use mix_base::{Bytes, MemSink, PutFault};
+use mix_shard::{Denied, Held};
 use packet_form::Geometry;
 use prim_std::LabSuite;
 use replay_disk::MemRack;
@@ -41,7 +41,8 @@ fn node_of_two(alloc: Global) -> Result<Node<MemRack, LabSuite>, Fail>
     }
 }
 
-/// A packet for this node alone, under its key of epoch 0, due half a second after its receipt.
+/// A packet for this node alone, under its key of epoch 0, due half a second after its receipt: a body of 64 times 0x41 to the
+/// recipient of 32 times 0x22.
 fn packet(alloc: Global, coin: u32) -> Result<Vec<u8>, Fail> {
     let key = epoch_pair::<LabSuite>(alloc, &[0; 32], 0)?;
     let hop = HopSpec {
@@ -83,12 +84,50 @@ fn a_packet_is_handed_on_once_also_after_a_crash(rt: HostRuntime) -> Result<(), 
     assert!(rt; node.peel(alloc, 0)? == Peeled::Busy);
     assert!(rt; node.claim(alloc, 0) == Claimed::Accepted { number: 1 });
     assert!(rt; node.send(1499).is_none());
-    assert!(rt; node.send(1500).is_some_and(|held| held.number() == 1));
+    let Some(held) = node.send(1500) else {
+        return Err(Fail::from("not sent"));
+    };
+    assert!(rt; held.number() == 1);
     assert!(rt; node.send(1500).is_none());
     node.crash(0);
     node.recv(2000, packet(alloc, 7)?)?;
     assert!(rt; node.peel(alloc, 1)? == Peeled::Holding { number: 2 });
+    let shard = held.tag()[0] % 2;
     let why = Denied::Spent;
-    assert!(rt; node.claim(alloc, 1) == Claimed::Denied { number: 2, why });
+    assert!(rt;
+        node.claim(alloc, 1)
+            == Claimed::Denied {
+                number: 2,
+                shard,
+                why
+            }
+    );
+    Ok(())
+}
+
+/// The hand-on line of the packet that `packet` makes.
+fn line_of(alloc: Global, held: &Held<LabSuite>) -> Result<String, Fail> {
+    let tag = hex::encode(alloc, held.tag().as_slice())?;
+    let recipient = "2222222222222222".repeat(alloc, 4)?;
+    let body = "4141414141414141".repeat(alloc, 8)?;
+    Ok(format!(in alloc; "deliver 1 0 {tag} {recipient} {body} -\n")?)
+}
+
+#[test]
+fn what_is_handed_on_is_written_in_one_line(rt: HostRuntime) -> Result<(), Fail> {
+    let alloc = rt.alloc();
+    let mut node = node_of_two(alloc)?;
+    node.recv(1000, packet(alloc, 7)?)?;
+    assert!(rt; node.peel(alloc, 2)? == Peeled::Holding { number: 1 });
+    assert!(rt; node.claim(alloc, 2) == Claimed::Accepted { number: 1 });
+    let Some(held) = node.send(1500) else {
+        return Err(Fail::from("not sent"));
+    };
+    let mut sink = MemSink::new(alloc, vec![in alloc; 1; 1]?);
+    assert!(rt; write_held(alloc, &mut sink, &held) == Err(PutFault::WriteFault));
+    assert!(rt; sink.bytes().is_empty());
+    write_held(alloc, &mut sink, &held)?;
+    let line = line_of(alloc, &held)?;
+    assert!(rt; sink.bytes() == line.as_bytes());
     Ok(())
 }

@@ -1,7 +1,7 @@
 // All racks of a node crash at once.
 ghost use Rattle.std.specs.Prelude.{◌≡◌, ℕ, Some, slice_get};
 ghost use Rattle.mix_shard.specs.Shards.{IsKept, ShardState};
-ghost use Rattle.node_core.specs.Nodes.{AtEachShard};
+ghost use Rattle.node_core.specs.Nodes.{AreShardsOf, AtEachShard};
 ghost use Rattle.node_core.specs.Steps.{Crashes, CrashesShard};
 
 use super::Node;
@@ -13,7 +13,10 @@ impl<R: CrashRack, S: Suite> Node<R, S> {
     /// Every rack crashes, with this pick: each area has one of its images as contents. Nothing waits and nothing is held
     /// any more, and every journal is to be made ready. Takes no memory.
     pub fn crash(&mut self, pick: u64)
-        ensures { Crashes R.tells pick self.old self.new }
+        ensures crashes { Crashes R.tells pick self.old self.new }
+        ensures kept { AreShardsOf R.tells S.meaning self.new.setup self.new.shards }
+        ensures setup { self.new.setup ≡ self.old.setup }
+        ensures next { self.new.next ≡ self.old.next }
     {
         self.arrivals.clear();
         self.workers = [None, None, None, None];

@@ -1,7 +1,7 @@
 // How a node is made of racks, and gives them back.
 ghost use Rattle.std.specs.Prelude.{◌≡◌, ℕ, [], ◌++◌, ◌+◌, ◌<◌, ◌≤◌, length, map, reverse, IfOk, IfErr, vec_len, vec_capacity};
 ghost use Rattle.node_core.specs.Kept.{AreMade, IsMade};
-ghost use Rattle.node_core.specs.Nodes.{IsNewNode, IsNodeSetup};
+ghost use Rattle.node_core.specs.Nodes.{AreShardsOf, IsNewNode, IsNodeSetup};
 
 use super::Node;
 use crate::setup::NodeSetup;
@@ -24,6 +24,7 @@ impl<R: CrashRack, S: Suite> Node<R, S> {
         requires allowed { IsNodeSetup setup }
         requires count { length racks.items ≡ setup.shards }
         ensures node { IfOk result (IsNewNode setup (map R.state racks.items)) }
+        ensures kept { IfOk result (λ node. AreShardsOf R.tells S.meaning setup node.shards) }
         ensures back { IfErr result (λ back.
             map R.state back.0.items ≡ map R.state racks.items) }
     {

@@ -3,7 +3,7 @@ ghost use Rattle.std.specs.Prelude.{◌≡◌, ◌≢◌, ℕ, [], ◌∷◌, �
 ghost use Rattle.epoch_keys.specs.Epochs.{live_epochs};
 ghost use Rattle.epoch_keys.specs.Keys.{first_without_pair};
 ghost use Rattle.mix_shard.specs.Items as items;
-ghost use Rattle.node_core.specs.Nodes.{packets_setup};
+ghost use Rattle.node_core.specs.Nodes.{AreShardsOf, packets_setup};
 ghost use Rattle.node_core.specs.Steps.{IfUnkeyed, NamesNoKey, peeled, worker_at};
 
 use super::Node;
@@ -32,6 +32,7 @@ impl<R: CrashRack, S: Suite> Node<R, S> {
         // A fault comes only where a worker that holds nothing meets an arrival.
         ensures free { OnErr result (worker_at self.old worker ≡ None) }
         ensures waits { OnErr result (self.old.arrivals ≢ []) }
+        ensures kept { AreShardsOf R.tells S.meaning self.new.setup self.new.shards }
         ensures setup { self.new.setup ≡ self.old.setup }
         ensures next { self.new.next ≡ self.old.next }
     {

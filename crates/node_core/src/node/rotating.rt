@@ -1,6 +1,6 @@
 // One shard of a node is made ready, rotated or armed.
 ghost use Rattle.std.specs.Prelude.{◌≡◌, ℕ, ◌^◌, ◌<◌};
-ghost use Rattle.node_core.specs.Nodes.{AtShard};
+ghost use Rattle.node_core.specs.Nodes.{AreShardsOf, AtShard};
 ghost use Rattle.node_core.specs.Steps.{Arms, Readies, Retires};
 
 use super::Node;
@@ -15,7 +15,10 @@ impl<R: CrashRack, S: Suite> Node<R, S> {
     /// the number of shards.
     pub fn ready(&mut self, alloc: Global, shard: u8) -> Result<Book, OpenStore>
         requires { shard < self.old.setup.shards }
-        ensures { AtShard (Readies R.tells S.meaning result) shard self.old self.new }
+        ensures readies { AtShard (Readies R.tells S.meaning result) shard self.old self.new }
+        ensures kept { AreShardsOf R.tells S.meaning self.new.setup self.new.shards }
+        ensures setup { self.new.setup ≡ self.old.setup }
+        ensures next { self.new.next ≡ self.old.next }
     {
         self.shards[shard as usize].ready(alloc, 0)
     }
@@ -25,7 +28,10 @@ impl<R: CrashRack, S: Suite> Node<R, S> {
     pub fn rotate(&mut self, alloc: Global, shard: u8, moment: u64) -> Result<(), RotateFault>
         requires shard { shard < self.old.setup.shards }
         requires moment { moment < 2 ^ 60 }
-        ensures { AtShard (Retires R.tells S.meaning moment result) shard self.old self.new }
+        ensures retires { AtShard (Retires R.tells S.meaning moment result) shard self.old self.new }
+        ensures kept { AreShardsOf R.tells S.meaning self.new.setup self.new.shards }
+        ensures setup { self.new.setup ≡ self.old.setup }
+        ensures next { self.new.next ≡ self.old.next }
     {
         self.shards[shard as usize].rotate(alloc, 0, moment)
     }
@@ -35,7 +41,10 @@ impl<R: CrashRack, S: Suite> Node<R, S> {
     pub fn arm(&mut self, shard: u8, calls: u64)
         requires shard { shard < self.old.setup.shards }
         requires calls { 0 < calls }
-        ensures { AtShard (Arms calls) shard self.old self.new }
+        ensures arms { AtShard (Arms calls) shard self.old self.new }
+        ensures kept { AreShardsOf R.tells S.meaning self.new.setup self.new.shards }
+        ensures setup { self.new.setup ≡ self.old.setup }
+        ensures next { self.new.next ≡ self.old.next }
     {
         self.shards[shard as usize].arm(calls);
     }

@@ -3,7 +3,7 @@ ghost use Rattle.std.specs.Prelude.{◌≡◌, ℕ, ◌+◌, ◌<◌, true, fals
 ghost use Rattle.due_queue.specs.Queues.{NoneDue, NotAfter};
 ghost use Rattle.mix_shard.specs.Items.{whens};
 ghost use Rattle.node_core.specs.Inside.{HasFound};
-ghost use Rattle.node_core.specs.Nodes.{all_held};
+ghost use Rattle.node_core.specs.Nodes.{AreShardsOf, all_held};
 ghost use Rattle.node_core.specs.Steps.{SendsItem};
 
 use super::Node;
@@ -20,6 +20,9 @@ impl<R: CrashRack, S: Suite> Node<R, S> {
             SendsItem R.tells S.meaning moment item self.old self.new) }
         ensures none { IfNone result (NoneDue whens None moment (all_held self.old.shards)) }
         ensures unchanged { IfNone result (self.new ≡ self.old) }
+        ensures kept { AreShardsOf R.tells S.meaning self.new.setup self.new.shards }
+        ensures setup { self.new.setup ≡ self.old.setup }
+        ensures next { self.new.next ≡ self.old.next }
     {
         let Some((place, next)) = first_due(self.shards.as_slice(), moment) else {
             return None;

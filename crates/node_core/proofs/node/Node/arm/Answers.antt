@@ -21,8 +21,8 @@ invariant_of-self g c =
       c.self.invariant.6,
     )
 
-pub returns : goal.returns
-returns g c =
+pub returns-clause-arms : goal.returns-clause-arms
+returns-clause-arms g c =
     let there = slice_get_read c.self.inside.shards.items c.self.inside.setup.shards c.args.shard c.index_mut.result.now
     (sym c.self.invariant.0.count) (subst (λ (node : NodeState). c.args.shard < node.setup.shards) (sym c.self.view_is) c.requires.shard) c.index_mut.ensures.value in
     rw (← c.self.view_is) (record {
@@ -32,3 +32,6 @@ returns g c =
       changes = c.arm.ensures;
       new_is = refl;
     })
+
+pub returns-clause-kept : goal.returns-clause-kept
+returns-clause-kept g c = (invariant_of-self g c).0

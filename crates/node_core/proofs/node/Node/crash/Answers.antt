@@ -25,10 +25,13 @@ invariant_of-self g c =
       c.self.invariant.6,
     )
 
-pub returns : goal.returns
-returns g c =
+pub returns-clause-crashes : goal.returns-clause-crashes
+returns-clause-crashes g c =
     let whole = with_items_is c.self.inside.shards c.crash_all.new.shards (omega (arith, c.crash_all.ensures.crashed.count, c.as_mut_slice.ensures.len, c.crash_all.auto.shards)) in
     rw (← c.self.view_is, whole, c.clear.ensures.items) (record {
       shards_are = subst (λ (shards : List ShardState). AtEachShard (CrashesShard g.R.Rack.tells c.args.pick) shards c.crash_all.new.shards) c.as_mut_slice.ensures.value c.crash_all.ensures.crashed;
       new_is = refl;
     })
+
+pub returns-clause-kept : goal.returns-clause-kept
+returns-clause-kept g c = (invariant_of-self g c).0

@@ -26,3 +26,6 @@ returns-in-Ok-make_shards-clause-node g c =
     let made = c.in-Ok-make_shards.ensures in
     node_made g.R.Rack.tells g.S.Suite.meaning c.args.setup (map g.R.Rack.state c.args.racks.items) c.in-Ok-make_shards.shards.items c.new-in-Ok-make_shards.result.items
     c.new-in-Ok-make_shards.ensures.items made.racks made.made
+
+pub returns-in-Ok-make_shards-clause-kept : goal.returns-in-Ok-make_shards-clause-kept
+returns-in-Ok-make_shards-clause-kept g c = (invariant_of-result g c).0

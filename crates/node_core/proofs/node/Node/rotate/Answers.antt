@@ -26,8 +26,8 @@ invariant_of-self g c =
       c.self.invariant.6,
     )
 
-pub returns : goal.returns
-returns g c =
+pub returns-clause-retires : goal.returns-clause-retires
+returns-clause-retires g c =
     let there = slice_get_read c.self.inside.shards.items c.self.inside.setup.shards c.args.shard c.index_mut.result.now
     (sym c.self.invariant.0.count) (subst (λ (node : NodeState). c.args.shard < node.setup.shards) (sym c.self.view_is) c.requires.shard) c.index_mut.ensures.value in
     rw (← c.self.view_is) (record {
@@ -37,3 +37,6 @@ returns g c =
       changes = record { told = c.rotate.ensures.told; objection = c.rotate.ensures.objection; among = c.rotate.ensures.among; objects = c.rotate.ensures.objects; each_moment = c.rotate.ensures.each_moment; owes = c.rotate.ensures.owes };
       new_is = refl;
     })
+
+pub returns-clause-kept : goal.returns-clause-kept
+returns-clause-kept g c = (invariant_of-self g c).0

@@ -69,3 +69,6 @@ returns-clause-unchanged g c =
     let there = slice_get_read c.self.inside.shards.items _ c.in-Some.place c.index_mut.result.now refl
     (slice_get_within c.self.inside.shards.items c.in-Some.place stands.shard stands.there) c.index_mut.ensures.value in
     gives_some c.args.moment c.self.inside.shards.items c.in-Some.place c.in-Some.next c.index_mut.result.now stands there c.take_due.result _ c.take_due.ensures.none
+
+pub returns-clause-kept : goal.returns-clause-kept
+returns-clause-kept g c = (invariant_of-self g c).0
