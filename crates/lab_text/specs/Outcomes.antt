@@ -1,7 +1,7 @@
 -- What an input says: a value, or where it stops to say one; and how reading it may end.
 use Rattle.std.specs.Prelude.{◌≡◌, ⊤, ℕ, Option, Some, None, Result, Ok, Err}
 use Rattle.lab_text.specs.declared.statuses.Status.{Status}
-use Rattle.lab_text.specs.declared.statuses.Status.TheVariants.{Done, Words, Line, ReadFault, WriteFault, Memory, Later}
+use Rattle.lab_text.specs.declared.statuses.Status.TheVariants.{Done, Words, Line, ReadFault, WriteFault, Foreign, OtherShape, Memory, NoKey, Later}
 
 -- a value; or the number of the first line that is outside the grammar, or that asks for what isn't built yet; or an
 -- epoch that has no key
@@ -24,16 +24,20 @@ abbrev pub at_line : {A : Type 0} → ℕ → Option A → Outcome A
 at_line number None = Outside number
 at_line number (Some value) = Says value
 
--- what was read is what the input says; a line is named exactly where the input stops at it
+-- what was read is what the input says; a line is named exactly where the input stops at it, and so is an epoch without
+-- a key
 abbrev pub Reads : {A : Type 0} → Outcome A → Result A Status → Type 0
 Reads outcome (Ok value) = outcome ≡ Says value
 Reads outcome (Err (Line line)) = outcome ≡ Outside line
 Reads outcome (Err (Later line)) = outcome ≡ NotBuilt line
+Reads outcome (Err (NoKey epoch)) = outcome ≡ Keyless epoch
 Reads outcome (Err ReadFault) = ⊤
 Reads outcome (Err Memory) = ⊤
 Reads outcome (Err Done) = ⊥
 Reads outcome (Err Words) = ⊥
 Reads outcome (Err WriteFault) = ⊥
+Reads outcome (Err (Foreign node shard area at)) = ⊥
+Reads outcome (Err (OtherShape node shard stored asked)) = ⊥
 
 -- what reading an input may end with
 abbrev pub EndsReading : Status → Type 0
@@ -44,3 +48,6 @@ EndsReading Memory = ⊤
 EndsReading Done = ⊥
 EndsReading Words = ⊥
 EndsReading WriteFault = ⊥
+EndsReading (Foreign node shard area at) = ⊥
+EndsReading (OtherShape node shard stored asked) = ⊥
+EndsReading (NoKey epoch) = ⊥

@@ -5,10 +5,11 @@ ghost use Rattle.std.specs.Fmt.{decimal};
 ghost use Rattle.std.specs.String.{string_bytes};
 ghost use Rattle.mix_base.specs.Faults.{Rose};
 ghost use Rattle.mix_base.specs.Writing.{GivesFront};
-ghost use Rattle.lab_text.specs.Statuses.{code_of, status_text};
+ghost use Rattle.lab_text.specs.Statuses.{code_of, shape_word, status_text};
+ghost use Rattle.lab_text.specs.declared.statuses.Status.TheVariants.{Foreign, OtherShape};
 
 use crate::LineFault;
-use mix_base::{PutFault, Sink};
+use mix_base::{PutFault, Shape, Sink};
 use std::alloc::{AllocError, Global};
 
 /// How a run ends.
@@ -19,14 +20,36 @@ pub enum Status {
     /// The words are no form of a command.
     Words,
     /// The line of this number is the first outside the grammar.
-    Line { line: u64 },
+    Line {
+        line: u64,
+    },
     /// The source failed.
     ReadFault,
     /// The sink failed.
     WriteFault,
+    /// The journal of this shard holds what no store has written: in this area, at this byte.
+    Foreign {
+        node: u32,
+        shard: u8,
+        area: u8,
+        at: u64,
+    },
+    /// The journal of this shard was made for another number of shards, or for another index.
+    OtherShape {
+        node: u32,
+        shard: u8,
+        stored: Shape,
+        asked: Shape,
+    },
     Memory,
+    /// The words of this epoch make no key pair.
+    NoKey {
+        epoch: u64,
+    },
     /// The line of this number is the first that asks for what isn't built yet.
-    Later { line: u64 },
+    Later {
+        line: u64,
+    },
 }
 
 impl From<LineFault> for Status {
@@ -66,7 +89,9 @@ pub fn code(status: &Status) -> u8
         Status::Line { .. } => 2,
         Status::ReadFault => 3,
         Status::WriteFault => 4,
+        Status::Foreign { .. } | Status::OtherShape { .. } => 5,
         Status::Memory => 6,
+        Status::NoKey { .. } => 8,
         Status::Later { .. } => 11,
     }
 }
@@ -87,12 +112,25 @@ pub fn write_status<O: Sink>(alloc: Global, sink: &mut O, status: &Status) -> Re
         Status::Line { line } => write_line(alloc, sink, "mix: line ", *line),
         Status::ReadFault => sink.put(alloc, b"mix: read fault\n"),
         Status::WriteFault => sink.put(alloc, b"mix: write fault\n"),
+        Status::Foreign {
+            node,
+            shard,
+            area,
+            at,
+        } => write_foreign(alloc, sink, *node, *shard, *area, *at),
+        Status::OtherShape {
+            node,
+            shard,
+            stored,
+            asked,
+        } => write_other_shape(alloc, sink, *node, *shard, stored, asked),
         Status::Memory => sink.put(alloc, b"mix: memory\n"),
+        Status::NoKey { epoch } => write_line(alloc, sink, "mix: no key for epoch ", *epoch),
         Status::Later { line } => write_line(alloc, sink, "mix: later line ", *line),
     }
 }
 
-// Gives a text, the number of a line and a line feed.
+// Gives a text, a number and a line feed.
 fn write_line<O: Sink>(alloc: Global, sink: &mut O, text: &str, line: u64) -> Result<(), PutFault>
     ensures whole { OnOk result (IfSome (O.given sink.old) (λ before.
         O.given sink.new ≡ Some (before ++ (text.now ++ decimal line ++ 10 ∷ [])))) }
@@ -109,9 +147,96 @@ fn write_line<O: Sink>(alloc: Global, sink: &mut O, text: &str, line: u64) -> Re
     }
 }
 
-// A text, the number of a line and a line feed.
+// A text, a number and a line feed.
 fn line_text(alloc: Global, text: &str, line: u64) -> Result<String, AllocError>
     ensures { IfOk result (λ piece. string_bytes piece ≡ text.now ++ decimal line ++ 10 ∷ []) }
 {
     format!(in alloc; "{text}{line}\n")
+}
+
+// Gives the text of a journal that holds what no store has written.
+fn write_foreign<O: Sink>(
+    alloc: Global,
+    sink: &mut O,
+    node: u32,
+    shard: u8,
+    area: u8,
+    at: u64,
+) -> Result<(), PutFault>
+    ensures whole { OnOk result (IfSome (O.given sink.old) (λ before.
+        O.given sink.new ≡ Some (before ++ status_text (Foreign node shard area at)))) }
+    ensures front { OnErr result (IfSome (O.given sink.old) (λ before.
+        IsSomeAnd (O.given sink.new) (λ after.
+        GivesFront before after (status_text (Foreign node shard area at))))) }
+    ensures fault { IsErrOf result PutFault.WriteFault →
+        Rose (O.faults sink.old) (O.faults sink.new) }
+    ensures count { O.faults sink.old ≤ O.faults sink.new }
+{
+    match foreign_text(alloc, node, shard, area, at) {
+        Ok(piece) => sink.put(alloc, piece.as_bytes()),
+        Err(_) => Err(PutFault::Memory),
+    }
+}
+
+// The text of a journal that holds what no store has written.
+fn foreign_text(
+    alloc: Global,
+    node: u32,
+    shard: u8,
+    area: u8,
+    at: u64,
+) -> Result<String, AllocError>
+    ensures { IfOk result (λ piece.
+        string_bytes piece ≡ status_text (Foreign node shard area at)) }
+{
+    format!(in alloc; "mix: journal {node} {shard} foreign area {area} at {at}\n")
+}
+
+// Gives the text of a journal that was made for another shape.
+fn write_other_shape<O: Sink>(
+    alloc: Global,
+    sink: &mut O,
+    node: u32,
+    shard: u8,
+    stored: &Shape,
+    asked: &Shape,
+) -> Result<(), PutFault>
+    ensures whole { OnOk result (IfSome (O.given sink.old) (λ before.
+        O.given sink.new ≡
+        Some (before ++ status_text (OtherShape node shard stored.now asked.now)))) }
+    ensures front { OnErr result (IfSome (O.given sink.old) (λ before.
+        IsSomeAnd (O.given sink.new) (λ after.
+        GivesFront before after (status_text (OtherShape node shard stored.now asked.now))))) }
+    ensures fault { IsErrOf result PutFault.WriteFault →
+        Rose (O.faults sink.old) (O.faults sink.new) }
+    ensures count { O.faults sink.old ≤ O.faults sink.new }
+{
+    match shape_text(alloc, node, shard, stored, asked) {
+        Ok(piece) => sink.put(alloc, piece.as_bytes()),
+        Err(_) => Err(PutFault::Memory),
+    }
+}
+
+// The text of a journal that was made for another shape.
+fn shape_text(
+    alloc: Global,
+    node: u32,
+    shard: u8,
+    stored: &Shape,
+    asked: &Shape,
+) -> Result<String, AllocError>
+    ensures { IfOk result (λ piece.
+        string_bytes piece ≡ status_text (OtherShape node shard stored.now asked.now)) }
+{
+    let stored = shape_word(alloc, stored)?;
+    let asked = shape_word(alloc, asked)?;
+    format!(in alloc; "mix: journal {node} {shard} stored {stored} asked {asked}\n")
+}
+
+// Which shard of how many, as N/I.
+fn shape_word(alloc: Global, shape: &Shape) -> Result<String, AllocError>
+    ensures { IfOk result (λ word. string_bytes word ≡ shape_word shape.now) }
+{
+    let (shards, index) = (shape.shards, shape.index);
+    format!(in alloc; "{shards}/{index}")
 }

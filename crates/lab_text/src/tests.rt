@@ -2,7 +2,7 @@
 mod script_lines;
 
 use crate::{LineFault, LineReader, Status, code, write_status};
-use mix_base::{MemSink, MemSource, Source};
+use mix_base::{MemSink, MemSource, Shape, Source};
 use std::alloc::{AllocError, Global};
 use std::process::Abort;
 use std::test::Fail;
@@ -87,5 +87,64 @@ fn texts_of_statuses(rt: HostRuntime) -> Result<(), Fail> {
     write_status(alloc, &mut sink, &Status::ReadFault)?;
     assert!(rt; sink.bytes() == b"mix: line 3\nmix: later line 12\nmix: read fault\n".as_slice());
     assert!(rt; code(&Status::Line { line: 3 }) == 2 && code(&Status::Later { line: 3 }) == 11);
+    Ok(())
+}
+
+/// What each status of a journal or a key is written as, and its code.
+const TEXTS: [(Status, u8, &str); 4] = [
+    (
+        Status::Foreign {
+            node: 4_294_967_295,
+            shard: 15,
+            area: 2,
+            at: 18_446_744_073_709_551_615,
+        },
+        5,
+        "mix: journal 4294967295 15 foreign area 2 at 18446744073709551615\n",
+    ),
+    (
+        Status::OtherShape {
+            node: 0,
+            shard: 0,
+            stored: Shape {
+                shards: 4,
+                index: 0,
+            },
+            asked: Shape {
+                shards: 8,
+                index: 0,
+            },
+        },
+        5,
+        "mix: journal 0 0 stored 4/0 asked 8/0\n",
+    ),
+    (
+        Status::OtherShape {
+            node: 7,
+            shard: 3,
+            stored: Shape {
+                shards: 16,
+                index: 2,
+            },
+            asked: Shape {
+                shards: 16,
+                index: 3,
+            },
+        },
+        5,
+        "mix: journal 7 3 stored 16/2 asked 16/3\n",
+    ),
+    (Status::NoKey { epoch: 12 }, 8, "mix: no key for epoch 12\n"),
+];
+
+#[test]
+fn texts_of_journals_and_keys(rt: HostRuntime) -> Result<(), Fail> {
+    let alloc = rt.alloc();
+    for (status, number, text) in TEXTS {
+        let mut sink = MemSink::new(alloc, Vec::new(alloc));
+        write_status(alloc, &mut sink, &status)?;
+        assert!(rt; sink.bytes() == text.as_bytes(), "{text}");
+        assert!(rt; code(&status) == number, "{text}");
+    }
     Ok(())
 }

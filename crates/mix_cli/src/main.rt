@@ -1,4 +1,4 @@
-// The program `mix`: the standard streams are handed to one call, which decides all.
+// The program `mix`: the standard streams and disks in memory are handed to one call, which decides all.
 #![tactic(auto)]
 
 mod program;
@@ -6,7 +6,8 @@ mod streams;
 #[cfg(test)]
 mod tests;
 
-use program::run;
+use mix_top::Bench;
+use program::{run, run_without_disks};
 use std::env;
 use std::process::ExitCode;
 use streams::{StdSink, StdSource};
@@ -15,12 +16,16 @@ fn main(rt: HostRuntime) -> ExitCode {
     let mut input = StdSource::new(rt.stdin());
     let mut output = StdSink::new(rt.stdout());
     let mut errors = StdSink::new(rt.stderr());
+    let Ok(mut bench) = Bench::in_memory(rt.alloc()) else {
+        return ExitCode::from(run_without_disks(rt.alloc(), &mut errors).code);
+    };
     let ended = run(
         rt.alloc(),
         env::args(&rt),
         &mut input,
         &mut output,
         &mut errors,
+        &mut bench,
     );
     ExitCode::from(ended.code)
 }

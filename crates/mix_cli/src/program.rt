@@ -1,21 +1,23 @@
 // The program as one call over a source and two sinks: the words of the command line, the command that they name, the
 // text of its status, and the exit code.
-ghost use Rattle.std.specs.Prelude.{◌≡◌, ◌≢◌, ◌↔◌, ◌≤◌, ◌++◌, drop, false, None, Some};
+ghost use Rattle.std.specs.Prelude.{◌≡◌, ◌≢◌, ◌↔◌, ◌≤◌, ◌++◌, drop, false, length, map, None, Some};
 ghost use Rattle.std.specs.Prelude.{IfErr, IfOk, IfSome, IsSomeAnd, OnErr, OnOk};
 ghost use Rattle.std.specs.Vec.Iter.{into_iter_items};
 ghost use Rattle.mix_base.specs.Faults.{Rose};
 ghost use Rattle.mix_base.specs.Writing.{GivesFront};
 ghost use Rattle.lab_text.specs.Readers.{ReachesEnd};
 ghost use Rattle.lab_text.specs.Statuses.{code_of, status_text};
-ghost use Rattle.mix_tools.specs.Answers.{AnswersCommand, EndsInput, ExplainsInput, IsReadBy, IsUnwritten};
+ghost use Rattle.mix_tools.specs.Answers.{AnswersCommand, EndsInput, EndsTool, ExplainsInput, IsReadBy, IsUnwritten};
 ghost use Rattle.mix_tools.specs.Commands.{command_of};
 ghost use Rattle.mix_top.specs.Commands.{OnDrive, OnTool, names_drive};
-ghost use Rattle.mix_top.specs.Promise.{AnswersScript};
+ghost use Rattle.mix_top.specs.Headline.{AnswersScript};
 ghost use Rattle.mix_cli.specs.Program.{OnWords, ReadsArgs};
 
 use lab_text::{Status, code, write_status};
-use mix_base::{PutFault, Sink, Source};
-use mix_top::mix_command;
+use mix_base::{PutFault, Sink, Source, Suite};
+use mix_top::{Bench, mix_command};
+use prim_std::LabSuite;
+use replay_disk::{CrashRack, Rack};
 use std::alloc::Global;
 use std::env::Args;
 use std::io;
@@ -34,13 +36,16 @@ pub struct Ended {
 
 /// Runs the command that the words behind the program's name say, and tells how it ended. Words that aren't UTF-8 are
 /// the status `Words`.
-pub fn run<I: Source, O: Sink, E: Sink>(
+pub fn run<I: Source, O: Sink, E: Sink, C: CrashRack, K: Rack>(
     alloc: Global,
     args: io::Result<Args>,
     source: &mut I,
     sink: &mut O,
     errors: &mut E,
+    bench: &mut Bench<C, K>,
 ) -> Ended
+    requires lab { length bench.old.lab.items ≡ 16 }
+    requires kept { length bench.old.kept.items ≡ 32 }
     // The words are all those behind the program's name, or there are none.
     ensures words { ReadsArgs args result.words }
     ensures no_words { IfErr result.words (λ status. result.status ≡ status) }
@@ -59,14 +64,17 @@ pub fn run<I: Source, O: Sink, E: Sink>(
         ((names_drive words ≡ false) × (command_of words ≡ None))) }
     ensures untouched { result.status ≡ Status.Words →
         (source.new ≡ source.old) × (sink.new ≡ sink.old) }
-    ensures report { OnWords result.words (λ words. OnDrive words
-        (AnswersScript (I.left source.old) result.status (O.given sink.old) (O.given sink.new))) }
+    ensures headline { OnWords result.words (λ words. OnDrive words
+        (AnswersScript C.tells ⟦<LabSuite as Suite>⟧.meaning (I.left source.old) result.status
+        (O.given sink.old) (O.given sink.new) (map C.state bench.old.lab.items) (map C.state bench.new.lab.items))) }
+    ensures bench { OnWords result.words (λ words. names_drive words ≡ false → bench.new ≡ bench.old) }
     ensures end { OnWords result.words (λ words. OnDrive words
         (result.status ≡ Status.Done → ReachesEnd (I.left source.old) (I.left source.new))) }
     ensures tool_text { OnWords result.words (λ words. OnTool words (λ command.
         AnswersCommand command (I.left source.old) (O.given sink.old) (O.given sink.new) result.status)) }
     ensures tool_cause { OnWords result.words (λ words. OnTool words (λ command.
         ExplainsInput command (I.left source.old) result.status)) }
+    ensures tool_kind { OnWords result.words (λ words. OnTool words (λ command. EndsTool result.status)) }
     ensures tool_unwritten { OnWords result.words (λ words. OnTool words (λ command.
         IsUnwritten result.status sink.old sink.new)) }
     ensures tool_end { result.status ≡ Status.Done →
@@ -86,7 +94,7 @@ pub fn run<I: Source, O: Sink, E: Sink>(
 {
     let words = command_words(alloc, args);
     let status = match &words {
-        Ok(words) => mix_command(alloc, words.as_slice(), source, sink),
+        Ok(words) => mix_command(alloc, words.as_slice(), source, sink, bench),
         Err(status) => *status,
     };
     let told = write_status(alloc, errors, &status);
@@ -95,6 +103,23 @@ pub fn run<I: Source, O: Sink, E: Sink>(
         words,
         status,
         code,
+        told,
+    }
+}
+
+/// How the program ends where there is no memory for its disks: with the status `Memory`, whatever the words are.
+pub fn run_without_disks<E: Sink>(alloc: Global, errors: &mut E) -> Ended
+    ensures code { result.code ≡ code_of Status.Memory }
+    ensures whole { OnOk result.told (IfSome (E.given errors.old) (λ before.
+        E.given errors.new ≡ Some (before ++ status_text Status.Memory))) }
+    ensures front { OnErr result.told (IfSome (E.given errors.old) (λ before.
+        IsSomeAnd (E.given errors.new) (λ after. GivesFront before after (status_text Status.Memory)))) }
+{
+    let told = write_status(alloc, errors, &Status::Memory);
+    Ended {
+        words: Err(Status::Memory),
+        status: Status::Memory,
+        code: code(&Status::Memory),
         told,
     }
 }

@@ -2,6 +2,7 @@
 use crate::program::run;
 use lab_text::Status;
 use mix_base::{MemSink, MemSource};
+use mix_top::Bench;
 use std::alloc::Global;
 use std::io;
 use std::process::Abort;
@@ -42,12 +43,14 @@ fn expect(rt: &impl Abort, alloc: Global, case: &Case) -> Result<(), Fail> {
     let mut source = MemSource::new(input, Vec::from_slice(alloc, case.reads)?);
     let mut sink = MemSink::new(alloc, Vec::from_slice(alloc, case.writes)?);
     let mut errors = MemSink::new(alloc, Vec::new(alloc));
+    let mut bench = Bench::in_memory(alloc)?;
     let ended = run(
         alloc,
         Ok(args.into_iter()),
         &mut source,
         &mut sink,
         &mut errors,
+        &mut bench,
     );
     assert!(rt; ended.code == case.code);
     assert!(rt; ended.told == Ok(()));
@@ -132,8 +135,9 @@ fn arguments_that_are_no_words(rt: HostRuntime) -> Result<(), Fail> {
         let mut source = MemSource::new(Vec::new(alloc), Vec::new(alloc));
         let mut sink = MemSink::new(alloc, Vec::new(alloc));
         let mut errors = MemSink::new(alloc, Vec::from_slice(alloc, &[1])?);
+        let mut bench = Bench::in_memory(alloc)?;
         let args = Err(io::Error::from(kind));
-        let ended = run(alloc, args, &mut source, &mut sink, &mut errors);
+        let ended = run(alloc, args, &mut source, &mut sink, &mut errors, &mut bench);
         assert!(rt; ended.status == status);
         assert!(rt; ended.code == code);
         assert!(rt; ended.told.is_err());

@@ -6,10 +6,10 @@ use Rattle.lab_text.specs.Readers.{GivesLine, coming, lines_given}
 use Rattle.lab_text.specs.Words.{words_of}
 use Rattle.lab_text.specs.declared.lines.LineReader.{LineReader}
 use Rattle.lab_text.specs.declared.statuses.Status.{Status}
-use Rattle.lab_text.specs.declared.statuses.Status.TheVariants.{Done, Words, Line, ReadFault, WriteFault, Memory, Later}
+use Rattle.lab_text.specs.declared.statuses.Status.TheVariants.{Done, Words, Line, ReadFault, WriteFault, Foreign, OtherShape, Memory, NoKey, Later}
 use Rattle.mix_base.specs.declared.reading.Source.{Ghosts}
-use Rattle.mix_tools.specs.Answers.{Answers, AnswersOutcome, Explains}
-use Rattle.lab_text.specs.Outcomes.{Outcome, Says, Reads, ◌>>=◌}
+use Rattle.mix_tools.specs.Answers.{Answers, AnswersOutcome, EndsTool, Explains}
+use Rattle.lab_text.specs.Outcomes.{EndsReading, Outcome, Says, Reads, ◌>>=◌}
 use Rattle.mix_tools.specs.Drafts.{draft_behind}
 use Rattle.mix_tools.specs.Reading.{request_from, request_of, request_to_come}
 use Rattle.mix_tools.specs.Texts.{answer_to, request_answer}
@@ -26,22 +26,26 @@ request_at_start reader draft (Some text) first lines =
     ap (λ (number : ℕ). option_map (λ l. request_from l (number + 1) draft) (coming reader)) first ∙ ap (option_map (λ l. request_from l 1 draft)) lines
 
 -- the input stops, and nothing was given
-nothing_given : (outcome : Outcome Request) (given : List ℕ) (status : Status) → Reads {A = Request} outcome (Err status)
+nothing_given : (outcome : Outcome Request) (given : List ℕ) (status : Status) → Reads {A = Request} outcome (Err status) → EndsReading status
     → (bytes : List ℕ) × (given ≡ given ++ bytes) × Answers (answer_to outcome) status bytes
-nothing_given outcome given (Line line) reads = ([], sym (append-nil given), (ap answer_to reads, refl))
-nothing_given outcome given (Later line) reads = ([], sym (append-nil given), (ap answer_to reads, refl))
-nothing_given outcome given ReadFault reads = ([], sym (append-nil given), refl)
-nothing_given outcome given Memory reads = ([], sym (append-nil given), inl refl)
-nothing_given outcome given Done reads = absurd reads
-nothing_given outcome given Words reads = absurd reads
-nothing_given outcome given WriteFault reads = absurd reads
+nothing_given outcome given (Line line) reads ends = ([], sym (append-nil given), (ap answer_to reads, refl))
+nothing_given outcome given (Later line) reads ends = ([], sym (append-nil given), (ap answer_to reads, refl))
+nothing_given outcome given ReadFault reads ends = ([], sym (append-nil given), refl)
+nothing_given outcome given Memory reads ends = ([], sym (append-nil given), inl refl)
+nothing_given outcome given Done reads ends = absurd reads
+nothing_given outcome given Words reads ends = absurd reads
+nothing_given outcome given WriteFault reads ends = absurd reads
+nothing_given outcome given (Foreign node shard area at) reads ends = absurd reads
+nothing_given outcome given (OtherShape node shard stored asked) reads ends = absurd reads
+nothing_given outcome given (NoKey epoch) reads ends = absurd ends
 
 pub answers_from_stop : (draft : Draft) (left given : Option (List ℕ)) (status : Status)
     → IfSome (option_map (request_of draft) left) (λ outcome. Reads {A = Request} outcome (Err status))
+    → EndsReading status
     → AnswersOutcome (option_map (λ text. answer_to (request_of draft text)) left) given given status
-answers_from_stop draft None given status reads = tt
-answers_from_stop draft (Some text) None status reads = tt
-answers_from_stop draft (Some text) (Some bytes) status reads = nothing_given (request_of draft text) bytes status reads
+answers_from_stop draft None given status reads ends = tt
+answers_from_stop draft (Some text) None status reads ends = tt
+answers_from_stop draft (Some text) (Some bytes) status reads ends = nothing_given (request_of draft text) bytes status reads ends
 
 -- a request was read, and its text is what was owed
 pub answers_from_request : (draft : Draft) (request : Request) (left before after : Option (List ℕ)) (status : Status)
@@ -54,20 +58,25 @@ answers_from_request draft request (Some text) before after status reads gives =
 
 -- ---- the cause of a status
 
-stop_explained : (outcome : Outcome Request) (status : Status) → Reads {A = Request} outcome (Err status) → Explains (answer_to outcome) status
-stop_explained outcome (Line line) reads = ap answer_to reads
-stop_explained outcome (Later line) reads = ap answer_to reads
-stop_explained outcome ReadFault reads = tt
-stop_explained outcome Memory reads = tt
-stop_explained outcome Done reads = absurd reads
-stop_explained outcome Words reads = absurd reads
-stop_explained outcome WriteFault reads = absurd reads
+stop_explained : (outcome : Outcome Request) (status : Status) → Reads {A = Request} outcome (Err status) → EndsReading status
+    → Explains (answer_to outcome) status
+stop_explained outcome (Line line) reads ends = ap answer_to reads
+stop_explained outcome (Later line) reads ends = ap answer_to reads
+stop_explained outcome ReadFault reads ends = tt
+stop_explained outcome Memory reads ends = tt
+stop_explained outcome Done reads ends = absurd reads
+stop_explained outcome Words reads ends = absurd reads
+stop_explained outcome WriteFault reads ends = absurd reads
+stop_explained outcome (Foreign node shard area at) reads ends = absurd reads
+stop_explained outcome (OtherShape node shard stored asked) reads ends = absurd reads
+stop_explained outcome (NoKey epoch) reads ends = absurd ends
 
 pub explained_from_stop : (draft : Draft) (left : Option (List ℕ)) (status : Status)
     → IfSome (option_map (request_of draft) left) (λ outcome. Reads {A = Request} outcome (Err status))
+    → EndsReading status
     → IfSome (option_map (λ text. answer_to (request_of draft text)) left) (λ outcome. Explains outcome status)
-explained_from_stop draft None status reads = tt
-explained_from_stop draft (Some text) status reads = stop_explained (request_of draft text) status reads
+explained_from_stop draft None status reads ends = tt
+explained_from_stop draft (Some text) status reads ends = stop_explained (request_of draft text) status reads ends
 
 pub explained_from_request : (draft : Draft) (request : Request) (left : Option (List ℕ)) (status : Status)
     → IfSome (option_map (request_of draft) left) (λ outcome. outcome ≡ Says request)
@@ -76,6 +85,19 @@ pub explained_from_request : (draft : Draft) (request : Request) (left : Option 
 explained_from_request draft request None status reads explains = tt
 explained_from_request draft request (Some text) status reads explains =
     subst (λ (outcome : Outcome (List ℕ)). Explains outcome status) (sym (ap answer_to reads)) explains
+
+-- a command may end with all that reading may end with
+pub ends_tool : (status : Status) → EndsReading status → EndsTool status
+ends_tool (Line line) ends = tt
+ends_tool (Later line) ends = tt
+ends_tool ReadFault ends = tt
+ends_tool Memory ends = tt
+ends_tool Done ends = absurd ends
+ends_tool Words ends = absurd ends
+ends_tool WriteFault ends = absurd ends
+ends_tool (Foreign node shard area at) ends = absurd ends
+ends_tool (OtherShape node shard stored asked) ends = absurd ends
+ends_tool (NoKey epoch) ends = absurd ends
 
 -- ---- a line at which reading stops
 
@@ -88,6 +110,9 @@ stops_on outcome next Memory reads = tt
 stops_on outcome next Done reads = absurd reads
 stops_on outcome next Words reads = absurd reads
 stops_on outcome next WriteFault reads = absurd reads
+stops_on outcome next (Foreign node shard area at) reads = absurd reads
+stops_on outcome next (OtherShape node shard stored asked) reads = absurd reads
+stops_on outcome next (NoKey epoch) reads = ap (λ step. step >>= next) reads
 
 pub stops_at_line : (whole : Option (Outcome Request)) (before after : Option (List ScriptLine)) (given number : ℕ) (draft : Draft) (line : List ℕ) (status : Status)
     → IfSome whole (λ outcome. option_map (λ lines. request_from lines (given + 1) draft) before ≡ Some outcome)

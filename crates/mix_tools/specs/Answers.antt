@@ -4,7 +4,7 @@ use Rattle.lab_text.specs.Given.{Gave}
 use Rattle.lab_text.specs.Outcomes.{Outcome, Says, Outside, NotBuilt, Keyless}
 use Rattle.lab_text.specs.Readers.{ReachesEnd}
 use Rattle.lab_text.specs.declared.statuses.Status.{Status}
-use Rattle.lab_text.specs.declared.statuses.Status.TheVariants.{Done, Words, Line, ReadFault, WriteFault, Memory, Later}
+use Rattle.lab_text.specs.declared.statuses.Status.TheVariants.{Done, Words, Line, ReadFault, WriteFault, Foreign, OtherShape, Memory, NoKey, Later}
 use Rattle.mix_tools.specs.Texts.{owed}
 use Rattle.mix_tools.specs.declared.commands.Command.{Command}
 use Rattle.mix_tools.specs.declared.commands.Command.TheVariants.{Keys, Make, Answer, Open}
@@ -26,6 +26,9 @@ Explains outcome WriteFault = IsSaid outcome
 Explains outcome ReadFault = ⊤
 Explains outcome Memory = ⊤
 Explains outcome Words = ⊥
+Explains outcome (Foreign node shard area at) = ⊥
+Explains outcome (OtherShape node shard stored asked) = ⊥
+Explains outcome (NoKey epoch) = ⊥
 
 -- the bytes are a front of the text that is owed
 abbrev pub IsFront : Outcome (List ℕ) → List ℕ → Type 0
@@ -41,6 +44,9 @@ Answers outcome ReadFault bytes = bytes ≡ []
 Answers outcome WriteFault bytes = IsFront outcome bytes
 Answers outcome Memory bytes = (bytes ≡ []) ⊎ IsFront outcome bytes
 Answers outcome Words bytes = ⊥
+Answers outcome (Foreign node shard area at) bytes = ⊥
+Answers outcome (OtherShape node shard stored asked) bytes = ⊥
+Answers outcome (NoKey epoch) bytes = ⊥
 
 -- the same, where the outcome is known and the sink tells what it was given
 abbrev pub AnswersOutcome : Option (Outcome (List ℕ)) → Option (List ℕ) → Option (List ℕ) → Status → Type 0
@@ -55,11 +61,27 @@ AnswersCommand command left before after status = AnswersOutcome (owed command l
 abbrev pub ExplainsInput : Command → Option (List ℕ) → Status → Type 0
 ExplainsInput command left status = IfSome (owed command left) (λ outcome. Explains outcome status)
 
--- after Line, Later and ReadFault the sink is as it was
+-- what a command ends with: never what is said of words, of a journal or of an epoch without a key
+abbrev pub EndsTool : Status → Type 0
+EndsTool Done = ⊤
+EndsTool (Line line) = ⊤
+EndsTool (Later line) = ⊤
+EndsTool ReadFault = ⊤
+EndsTool WriteFault = ⊤
+EndsTool Memory = ⊤
+EndsTool Words = ⊥
+EndsTool (Foreign node shard area at) = ⊥
+EndsTool (OtherShape node shard stored asked) = ⊥
+EndsTool (NoKey epoch) = ⊥
+
+-- after Line, Later and ReadFault the sink is as it was, and so it is after a status of a journal or of a key
 abbrev pub IsUnwritten : {O : Type 0} → Status → O → O → Type 0
 IsUnwritten (Line line) old new = new ≡ old
 IsUnwritten (Later line) old new = new ≡ old
 IsUnwritten ReadFault old new = new ≡ old
+IsUnwritten (Foreign node shard area at) old new = new ≡ old
+IsUnwritten (OtherShape node shard stored asked) old new = new ≡ old
+IsUnwritten (NoKey epoch) old new = new ≡ old
 IsUnwritten Done old new = ⊤
 IsUnwritten Words old new = ⊤
 IsUnwritten WriteFault old new = ⊤

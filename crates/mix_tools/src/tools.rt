@@ -7,8 +7,8 @@ ghost use Rattle.prim_std.specs.Laboratory.{lab_scheme};
 ghost use Rattle.epoch_keys.specs.Keys.{epoch_public_key};
 ghost use Rattle.lab_text.specs.Outcomes.{Says};
 ghost use Rattle.lab_text.specs.Readers.{ReachesEnd};
-ghost use Rattle.mix_tools.specs.Answers.{AnswersCommand, AnswersOutcome, EndsInput, Explains, ExplainsInput};
-ghost use Rattle.mix_tools.specs.Answers.{IsReadBy, IsUnwritten};
+ghost use Rattle.mix_tools.specs.Answers.{AnswersCommand, AnswersOutcome, EndsInput, EndsTool};
+ghost use Rattle.mix_tools.specs.Answers.{Explains, ExplainsInput, IsReadBy, IsUnwritten};
 ghost use Rattle.mix_tools.specs.Commands.{command_of};
 ghost use Rattle.mix_tools.specs.Drafts.{IsDraftInRange, IsRequestInRange};
 ghost use Rattle.mix_tools.specs.Reading.{request_of};
@@ -43,6 +43,7 @@ pub fn tool<I: Source, O: Sink>(
         IfSome (command_of (map string_bytes words.now)) (λ command.
         AnswersCommand command (I.left source.old) (O.given sink.old) (O.given sink.new) status)) }
     ensures not_words { result ≢ Some Status.Words }
+    ensures kind { IfSome result EndsTool }
 
     // Line and Later have their cause wherever the source tells the input, whatever the sink tells.
     ensures cause { IfSome result (λ status.
@@ -85,6 +86,7 @@ fn write_key<O: Sink>(alloc: Global, sink: &mut O, seed: &[u8; 32], epoch: u64) 
     ensures cause { Explains (key_owed epoch (epoch_public_key lab_scheme seed.now epoch)) result }
     ensures unwritten { IsUnwritten result sink.old sink.new }
     ensures not_words { result ≢ Status.Words }
+    ensures kind { EndsTool result }
     ensures not_read { result ≢ Status.ReadFault }
     ensures write_fault { result ≡ Status.WriteFault →
         Rose (O.faults sink.old) (O.faults sink.new) }
@@ -119,6 +121,7 @@ fn answer_request<I: Source, O: Sink>(
     ensures given_at_end { O.given sink.new ≢ O.given sink.old →
         ReachesEnd (I.left source.old) (I.left source.new) }
     ensures not_words { result ≢ Status.Words }
+    ensures kind { EndsTool result }
     ensures read_fault { result ≡ Status.ReadFault →
         Rose (I.faults source.old) (I.faults source.new) }
     ensures write_fault { result ≡ Status.WriteFault →
@@ -143,6 +146,7 @@ fn write_answer<O: Sink>(alloc: Global, sink: &mut O, request: &Request) -> Stat
     ensures cause { Explains (Says (request_answer request.now)) result }
     ensures unwritten { IsUnwritten result sink.old sink.new }
     ensures not_words { result ≢ Status.Words }
+    ensures kind { EndsTool result }
     ensures not_read { result ≢ Status.ReadFault }
     ensures write_fault { result ≡ Status.WriteFault →
         Rose (O.faults sink.old) (O.faults sink.new) }
@@ -183,6 +187,7 @@ fn give<O: Sink>(alloc: Global, sink: &mut O, text: &String) -> Status
     ensures cause { Explains (Says (string_bytes text.now)) result }
     ensures unwritten { IsUnwritten result sink.old sink.new }
     ensures not_words { result ≢ Status.Words }
+    ensures kind { EndsTool result }
     ensures not_read { result ≢ Status.ReadFault }
     ensures write_fault { result ≡ Status.WriteFault →
         Rose (O.faults sink.old) (O.faults sink.new) }

@@ -1,504 +1,485 @@
--- Each hand-on line is honest: what a node holds came from its arrivals, unwrapped under a live key, and a `send` takes
--- what is due.
-use Rattle.std.proofs.Common.{◌≡◌, ℕ, suc, ◌+◌, ◌≤◌, IsTrue, List, [], ◌∷◌, ◌++◌, length, take, drop, map, ◌⊎◌, inl, inr, refl, ap, ◌∙◌, sym, subst, append_assoc, slice_set, Option, Some, None, IfSome, option_map, Result, Ok, Err, arith}
+-- Each hand-on line is honest: what waits, what a worker holds and what a shard holds came from an arrival, what a shard
+-- holds was opened by a key that was live at its receipt, and a `send` hands on what is due.
+use Rattle.std.proofs.Common.{◌≡◌, ℕ, ◌+◌, ◌≤◌, IsTrue, List, [], ◌∷◌, ◌++◌, length, get_or, inl, inr, refl, ap, ◌∙◌, sym, subst, slice_set, Option, Some, None, IfSome, option_map, unwrap_or, Result, Ok, Err, IfErr, IfOk, arith}
+use Rattle.std.specs.Bool.{⊤}
 use Rattle.std.specs.List.{All, Contains, slice_get}
-use Rattle.std.proofs.lemmas.List.{append-nil, get_or_past, length-append, take-append-drop}
-use Rattle.std.proofs.lemmas.Option.{slice_get_within, get_or_from_slice_get}
+use Rattle.std.proofs.lemmas.List.{append_assoc, append-nil, get_or_past, length-append}
+use Rattle.std.proofs.lemmas.Option.{slice_get-get_or}
 use Rattle.std.proofs.lemmas.Bool.{cases_lt}
-use Rattle.std.proofs.lemmas.List.Elements.{All-append, All-cons, All-drop, All-get_or, All-head, All-nil, All-push, All-set, All-tail, All-take, All-weaker, Contains-append_left, Contains-push}
-use Rattle.mix_base.proofs.Members.{Contains-head, Contains-tail}
-use Rattle.prim_std.specs.Laboratory.{lab_scheme, lab_meaning}
+use Rattle.std.proofs.lemmas.List.Elements.{All-append, All-cons, All-contains, All-from_get_or, All-get_or, All-head, All-nil, All-push, All-set, All-tail, All-weaker, Contains-append_left, Contains-push}
+use Rattle.std.proofs.lemmas.List.Sorted.{All-permutation}
+use Rattle.mix_base.specs.Suites.{SuiteMeaning}
+use Rattle.replay_disk.specs.Disk.{RackState}
 use Rattle.epoch_keys.proofs.LiveEpochs.{live_exactly}
 use Rattle.epoch_keys.specs.Epochs.{InRange, is_live, live_epochs}
-use Rattle.epoch_keys.specs.Keys.{epoch_secret_key, secret_keys}
-use Rattle.mix_base.specs.Options.{◌>>=◌}
+use Rattle.epoch_keys.specs.Keys.{epoch_secret_key}
 use Rattle.sphinx_unwrap.specs.Outcome.{unwrapped}
-use Rattle.sphinx_unwrap.specs.declared.outcome.Opened.{Opened}
 use Rattle.sphinx_unwrap.specs.declared.faults.Refused.{Refused}
-use Rattle.sphinx_unwrap.specs.declared.faults.Refused.TheVariants as refusals
-use Rattle.lab_text.specs.Script.{Events}
-use Rattle.lab_text.specs.declared.statuses.Status.{Status}
-use Rattle.lab_text.specs.declared.statuses.Status.TheVariants.{Done, Words, Line, ReadFault, WriteFault, Memory, Later}
-use Rattle.lab_text.specs.declared.events.Event.{Event}
-use Rattle.lab_text.specs.declared.events.Event.TheVariants as events
-use Rattle.mix_top.specs.Book.{Book}
+use Rattle.sphinx_unwrap.specs.declared.outcome.Opened.{Opened}
+use Rattle.spent_store.specs.declared.faults.ClaimFault.{ClaimFault}
+use Rattle.spent_store.specs.declared.faults.OpenStore.{OpenStore}
+use Rattle.spent_store.specs.declared.faults.OpenStore.TheVariants as open_store
+use Rattle.spent_store.specs.declared.summary.Book.{Book}
+use Rattle.mix_shard.specs.Entries.{packet_of}
+use Rattle.mix_shard.specs.Faults.{admit_answer, rotate_answer}
+use Rattle.mix_shard.specs.Items.{Item, IsHeld, destination, item_of, item_or_not, whens}
+use Rattle.mix_shard.specs.Items as items
+use Rattle.mix_shard.specs.LiveKeys.{opened_at}
+use Rattle.mix_shard.specs.Shards.{Adds, IsClaimEntry, IsEntry, IsOpeningBy, IsReady, IsRotateEntry, RefusesOpening, ShardState}
+use Rattle.mix_shard.specs.Tale.{HeldAfter, IsItemOf, Says, State, StaysUnsound, Steps}
+use Rattle.mix_shard.specs.declared.entries.Answer.{Answer}
+use Rattle.mix_shard.specs.declared.entries.Entry.{Entry}
+use Rattle.mix_shard.specs.declared.entries.Entry.TheVariants as entry
+use Rattle.mix_shard.specs.declared.entries.Told.{Told}
+use Rattle.mix_shard.specs.declared.faults.RotateFault.{RotateFault}
+use Rattle.mix_shard.specs.declared.setup.Setup.{Setup}
+use Rattle.mix_shard.specs.declared.terms.Terms.{Terms}
+use Rattle.mix_shard.proofs.Holding.{held_opening}
+use Rattle.node_core.specs.Nodes.{AtShard, IsNewNode, NodeState, all_held, no_packets, packets_setup}
+use Rattle.node_core.specs.Steps.{Admits, ClaimsFor, ClaimsItem, CrashesShard, GivesUp, Readies, Retires, SendsItem, peeled, received, settled, taken, taken_by, worker_at}
+use Rattle.node_core.specs.Steps as node
+use Rattle.node_core.specs.declared.answers.Claimed.{Claimed}
+use Rattle.node_core.specs.declared.answers.Peeled.{Peeled}
+use Rattle.node_core.specs.declared.answers.Peeled.TheVariants as peels
+use Rattle.node_core.specs.declared.arrivals.Arrival.{Arrival}
+use Rattle.node_core.specs.declared.setup.NodeSetup.{NodeSetup}
+use Rattle.mix_top.specs.Acts.{Act, Opens, Reopens, Receives, Peels, Claims, Sends, Rotates, Arms, Crashes}
 use Rattle.mix_top.specs.Honest.{IsHonest, arrival_by, arrivals_from}
-use Rattle.mix_top.specs.Keys.{first_open, live_keys, opened_at, opened_with}
-use Rattle.mix_top.specs.Node.{NodeState, new_node}
-use Rattle.mix_top.specs.Program.{Program, set_up}
-use Rattle.mix_top.specs.Promise.{HandsOnHonestly, Owes}
+use Rattle.mix_top.specs.Report.{Line, HandsOn}
 use Rattle.mix_top.specs.Run.{Runs}
-use Rattle.mix_top.specs.Step.{Step, Admits, ClaimsFor, Sends, item_of, peeled_by, received, settled, taken, worker_at}
-use Rattle.mix_top.specs.declared.book.Claim.{Claim}
-use Rattle.mix_top.specs.declared.book.Claim.TheVariants as claims
-use Rattle.mix_top.specs.declared.items.Arrival.{Arrival}
-use Rattle.mix_top.specs.declared.items.Item.{Item}
-use Rattle.mix_top.specs.declared.items.Setup.{Setup}
-use Rattle.mix_top.specs.declared.report.ReportLine.{ReportLine}
-use Rattle.mix_top.specs.declared.report.ReportLine.TheVariants as says
+use Rattle.mix_top.specs.Steps.{Does}
+use Rattle.mix_top.proofs.Members.{all_at}
+use Rattle.mix_top.proofs.Runs.{HandedOn, Runs-split}
 
--- a run goes on by one event
-pub Runs-push : (setup : Setup) (done : List (ℕ × Event)) (old : NodeState) (report : List ReportLine) (between : NodeState) (event : ℕ × Event) (lines : List ReportLine) (new : NodeState)
-    → Runs setup old done report between → Step setup between event.1 lines new → Runs setup old (done ++ event ∷ []) (report ++ lines) new
-Runs-push setup [] old report between event lines new (none, same) step =
-    (new, lines, [], subst (λ (state : NodeState). Step setup state event.1 lines new) same step, (refl, refl), ap (λ (r : List ReportLine). r ++ lines) none ∙ sym (append-nil lines))
-Runs-push setup (first ∷ done) old report between event lines new (mid, front, others, first_step, run, joined) step =
-    (mid, front, others ++ lines, first_step, Runs-push setup done mid others between event lines new run step, ap (λ (r : List ReportLine). r ++ lines) joined ∙ append_assoc front others lines)
+-- ---- lists
 
--- the key that opens a packet is one of the epochs whose keys were tried
-record IsOpening (setup : Setup) (arrival : Arrival) (epochs : List ℕ) (epoch : ℕ) (opened : Opened) : Type 0 where
-  tried : Contains epochs epoch
-  key : List ℕ
-  of_epoch : epoch_secret_key lab_scheme setup.seed epoch ≡ Some key
-  unwraps : unwrapped lab_meaning setup.geometry key arrival.packet ≡ Ok opened
+-- a fact of all entries, from all places, where these are those of another list
+at_each : {X Y : Type 0} (P : X → Type 0) (xs : List X) (ys : List Y) → length xs ≡ length ys
+    → ((place : ℕ) (x : X) (y : Y) → slice_get xs place ≡ Some x → slice_get ys place ≡ Some y → P x) → All P xs
+at_each P [] ys same each = All-nil P
+at_each P (x ∷ xs) [] same each = absurd (omega (arith, same))
+at_each P (x ∷ xs) (y ∷ ys) same each =
+    All-from_get_or P (x ∷ xs) x
+    (λ place within. each place (get_or (x ∷ xs) place x) (get_or (y ∷ ys) place y) (slice_get-get_or (x ∷ xs) place x within)
+    (slice_get-get_or (y ∷ ys) place y (omega (arith, within, same))))
 
-later_opening : (setup : Setup) (arrival : Arrival) (first : ℕ) (epochs : List ℕ) (epoch : ℕ) (opened : Opened)
-    → IsOpening setup arrival epochs epoch opened → IsOpening setup arrival (first ∷ epochs) epoch opened
-later_opening setup arrival first epochs epoch opened found = record {
-  tried = Contains-tail first epochs epoch found.tried;
-  key = found.key;
-  of_epoch = found.of_epoch;
-  unwraps = found.unwraps;
-}
+-- ---- what comes from an arrival
 
--- the first key that opens it, by what the first of the keys gives
-opening_by : (setup : Setup) (arrival : Arrival) (first : ℕ) (key : List ℕ) (result : Result Opened Refused) (others : List (ℕ × Result Opened Refused)) (epochs : List ℕ) (epoch : ℕ) (opened : Opened)
-    → epoch_secret_key lab_scheme setup.seed first ≡ Some key → unwrapped lab_meaning setup.geometry key arrival.packet ≡ result
-    → (first_open others ≡ Ok (epoch, opened) → IsOpening setup arrival epochs epoch opened)
-    → first_open ((first, result) ∷ others) ≡ Ok (epoch, opened) → IsOpening setup arrival (first ∷ epochs) epoch opened
-opening_by setup arrival first key (Ok made) others epochs epoch opened has gives rest found =
-    let pair : (first, made) ≡ (epoch, opened) = cc in
-    let same : first ≡ epoch = ap (λ (p : ℕ × Opened). p.0) pair in
-    let same_opened : made ≡ opened = ap (λ (p : ℕ × Opened). p.1) pair in
-    record {
-      tried = subst (λ (e : ℕ). Contains (first ∷ epochs) e) same (Contains-head first epochs);
-      key = key;
-      of_epoch = subst (λ (e : ℕ). epoch_secret_key lab_scheme setup.seed e ≡ Some key) same has;
-      unwraps = gives ∙ ap Ok same_opened;
-    }
-opening_by setup arrival first key (Err refusals.Sealed) others epochs epoch opened has gives rest found =
-    later_opening setup arrival first epochs epoch opened (rest found)
-opening_by setup arrival first key (Err refusals.Length) others epochs epoch opened has gives rest found = absurd (cc)
-opening_by setup arrival first key (Err refusals.Version) others epochs epoch opened has gives rest found = absurd (cc)
-opening_by setup arrival first key (Err refusals.Commands) others epochs epoch opened has gives rest found = absurd (cc)
-
--- the same with the key of one epoch in front of others
-opening_more : (setup : Setup) (arrival : Arrival) (first : ℕ) (epochs : List ℕ) (key : Option (List ℕ)) (others : Option (List (ℕ × List ℕ))) (keys : List (ℕ × List ℕ)) (epoch : ℕ) (opened : Opened)
-    → epoch_secret_key lab_scheme setup.seed first ≡ key → secret_keys lab_scheme setup.seed epochs ≡ others
-    → (key >>= λ k. others >>= λ ks. Some ((first, k) ∷ ks)) ≡ Some keys → first_open (map (opened_with setup arrival) keys) ≡ Ok (epoch, opened)
-    → ((rest : List (ℕ × List ℕ)) → secret_keys lab_scheme setup.seed epochs ≡ Some rest → first_open (map (opened_with setup arrival) rest) ≡ Ok (epoch, opened) → IsOpening setup arrival epochs epoch opened)
-    → IsOpening setup arrival (first ∷ epochs) epoch opened
-opening_more setup arrival first epochs None others keys epoch opened has rest made found again = absurd (cc)
-opening_more setup arrival first epochs (Some key) None keys epoch opened has rest made found again = absurd (cc)
-opening_more setup arrival first epochs (Some key) (Some others) keys epoch opened has rest made found again =
-    let same : (first, key) ∷ others ≡ keys = cc in
-    opening_by setup arrival first key (unwrapped lab_meaning setup.geometry key arrival.packet) (map (opened_with setup arrival) others) epochs epoch opened has refl
-    (λ opens. again others rest opens)
-    (subst (λ (ks : List (ℕ × List ℕ)). first_open (map (opened_with setup arrival) ks) ≡ Ok (epoch, opened)) (sym same) found)
-
--- the same with the keys of all epochs that are tried
-opening_at : (setup : Setup) (arrival : Arrival) (epochs : List ℕ) (keys : List (ℕ × List ℕ)) (epoch : ℕ) (opened : Opened)
-    → secret_keys lab_scheme setup.seed epochs ≡ Some keys → first_open (map (opened_with setup arrival) keys) ≡ Ok (epoch, opened)
-    → IsOpening setup arrival epochs epoch opened
-opening_at setup arrival [] keys epoch opened made found =
-    let none : [] ≡ keys = cc in
-    let opens : first_open (map (opened_with setup arrival) []) ≡ Ok (epoch, opened) =
-    subst (λ (ks : List (ℕ × List ℕ)). first_open (map (opened_with setup arrival) ks) ≡ Ok (epoch, opened)) (sym none) found in
-    absurd (cc)
-opening_at setup arrival (first ∷ epochs) keys epoch opened made found =
-    opening_more setup arrival first epochs (epoch_secret_key lab_scheme setup.seed first) (secret_keys lab_scheme setup.seed epochs) keys epoch opened refl refl made found
-    (λ rest is opens. opening_at setup arrival epochs rest epoch opened is opens)
-
--- what came from one of these arrivals: the arrival unwrapped under the key of an epoch that was live at its receipt
-record CameFrom (setup : Setup) (arrivals : List Arrival) (item : Item) : Type 0 where
+-- one of these arrivals has this number, moment and packet
+record HasArrived (arrivals : List Arrival) (number at : ℕ) (packet : List ℕ) : Type 0 where
   arrival : Arrival
   arrived : Contains arrivals arrival
-  epoch : ℕ
-  opened : Opened
-  opening : IsOpening setup arrival (live_epochs setup.times arrival.at) epoch opened
-  same : item ≡ item_of arrival epoch opened
+  number_is : number ≡ arrival.number
+  at_is : at ≡ arrival.at
+  packet_is : packet ≡ arrival.packet
 
-came_more : (setup : Setup) (arrivals more : List Arrival) (item : Item) → CameFrom setup arrivals item → CameFrom setup (arrivals ++ more) item
-came_more setup arrivals more item came = record {
+abbrev CameFrom : List Arrival → Item → Type 0
+CameFrom arrivals item = HasArrived arrivals item.number item.at item.packet
+
+came_more : (arrivals more : List Arrival) (item : Item) → CameFrom arrivals item → CameFrom (arrivals ++ more) item
+came_more arrivals more item came = record {
   arrival = came.arrival;
   arrived = Contains-append_left arrivals more came.arrival came.arrived;
-  epoch = came.epoch;
-  opened = came.opened;
-  opening = came.opening;
-  same = came.same;
+  number_is = came.number_is;
+  at_is = came.at_is;
+  packet_is = came.packet_is;
 }
 
--- all that a node has came from these arrivals, and the next number is one more than there are
-record Came (setup : Setup) (arrivals : List Arrival) (state : NodeState) : Type 0 where
-  next : state.next ≡ 1 + length arrivals
-  waiting : All (Contains arrivals) state.arrivals
-  working : All (λ slot. IfSome slot (CameFrom setup arrivals)) state.workers
-  holding : All (CameFrom setup arrivals) state.held
+slot_more : (arrivals more : List Arrival) (slot : Option Item) → IfSome slot (CameFrom arrivals) → IfSome slot (CameFrom (arrivals ++ more))
+slot_more arrivals more None came = tt
+slot_more arrivals more (Some item) came = came_more arrivals more item came
 
-slot_more : (setup : Setup) (arrivals more : List Arrival) (slot : Option Item) → IfSome slot (CameFrom setup arrivals) → IfSome slot (CameFrom setup (arrivals ++ more))
-slot_more setup arrivals more None came = tt
-slot_more setup arrivals more (Some item) came = came_more setup arrivals more item came
+-- workers that hold nothing
+none_came : (arrivals : List Arrival) → All (λ slot. IfSome slot (CameFrom arrivals)) no_packets
+none_came arrivals =
+    let P : Option Item → Type 0 = λ slot. IfSome slot (CameFrom arrivals) in
+    All-cons P None (None ∷ None ∷ None ∷ []) tt (All-cons P None (None ∷ None ∷ []) tt (All-cons P None (None ∷ []) tt (All-cons P None [] tt (All-nil P))))
 
--- at first nothing came
-came_first : (setup : Setup) → Came setup [] new_node
-came_first setup = record {
-  next = refl;
-  waiting = All-nil (Contains []);
-  working = All-cons (λ slot. IfSome slot (CameFrom setup [])) None (None ∷ None ∷ None ∷ []) tt
-      (All-cons (λ slot. IfSome slot (CameFrom setup [])) None (None ∷ None ∷ []) tt
-      (All-cons (λ slot. IfSome slot (CameFrom setup [])) None (None ∷ []) tt
-      (All-cons (λ slot. IfSome slot (CameFrom setup [])) None [] tt (All-nil (λ slot. IfSome slot (CameFrom setup []))))));
-  holding = All-nil (CameFrom setup []);
-}
+-- the item of an unwrapping is of what was unwrapped
+peeled_came : (suite : SuiteMeaning) (setup : Setup) (arrivals : List Arrival) (arrival : Arrival) (item : Item) → Contains arrivals arrival
+    → items.peeled suite setup arrival.number arrival.at arrival.packet ≡ Some (Ok item) → CameFrom arrivals item
+peeled_came suite setup arrivals arrival item arrived opens = by_opened (opened_at suite setup arrival.at arrival.packet) opens
+  where
+    by_opened : (opened : Option (Result (ℕ × Opened) Refused))
+        → option_map (item_or_not setup arrival.number arrival.at arrival.packet) opened ≡ Some (Ok item) → CameFrom arrivals item
+    by_opened None same = absurd (cc)
+    by_opened (Some (Err why)) same = absurd (cc)
+    by_opened (Some (Ok found)) same =
+        let is : item_of setup arrival.number arrival.at arrival.packet found ≡ item = cc in
+        subst (CameFrom arrivals) is (record { arrival = arrival; arrived = arrived; number_is = refl; at_is = refl; packet_is = refl })
 
--- a packet arrives
-came_received : (setup : Setup) (arrivals : List Arrival) (old : NodeState) (moment : ℕ) (packet : List ℕ) → Came setup arrivals old
-    → Came setup (arrivals ++ record { number = old.next; at = moment; packet = packet } ∷ []) (received old moment packet)
-came_received setup arrivals old moment packet came =
-    let arrival : Arrival = record { number = old.next; at = moment; packet = packet } in
-    let more : List Arrival = arrivals ++ arrival ∷ [] in
-    record {
-      next = omega (arith, came.next, length-append arrivals (arrival ∷ []));
-      waiting = All-push (Contains more) old.arrivals arrival
-          (All-weaker (Contains arrivals) (Contains more) (λ a found. Contains-append_left arrivals (arrival ∷ []) a found) old.arrivals came.waiting)
-          (Contains-push arrivals arrival);
-      working = All-weaker (λ slot. IfSome slot (CameFrom setup arrivals)) (λ slot. IfSome slot (CameFrom setup more)) (slot_more setup arrivals (arrival ∷ [])) old.workers came.working;
-      holding = All-weaker (CameFrom setup arrivals) (CameFrom setup more) (came_more setup arrivals (arrival ∷ [])) old.held came.holding;
+module _ (suite : SuiteMeaning) (setup : NodeSetup) where
+  -- what a shard of this node holds
+  record IsKnown (arrivals : List Arrival) (item : Item) : Type 0 where
+    from : CameFrom arrivals item
+    held : IsHeld suite item
+    setup_is : item.setup ≡ packets_setup setup
+
+  record ShardCame (arrivals : List Arrival) (shard : ShardState) : Type 0 where
+    setup_is : shard.terms.setup ≡ packets_setup setup
+    holding : All (IsKnown arrivals) shard.state.held
+
+  -- all that a node has came from these arrivals, and the next number is one more than there are
+  record Came (arrivals : List Arrival) (state : NodeState) : Type 0 where
+    next : state.next ≡ 1 + length arrivals
+    waiting : All (Contains arrivals) state.arrivals
+    working : All (λ slot. IfSome slot (CameFrom arrivals)) state.workers
+    shards : All (ShardCame arrivals) state.shards
+
+  known_more : (arrivals more : List Arrival) (item : Item) → IsKnown arrivals item → IsKnown (arrivals ++ more) item
+  known_more arrivals more item known = record { from = came_more arrivals more item known.from; held = known.held; setup_is = known.setup_is }
+
+  shard_more : (arrivals more : List Arrival) (shard : ShardState) → ShardCame arrivals shard → ShardCame (arrivals ++ more) shard
+  shard_more arrivals more shard came = record {
+    setup_is = came.setup_is;
+    holding = All-weaker (IsKnown arrivals) (IsKnown (arrivals ++ more)) (known_more arrivals more) shard.state.held came.holding;
+  }
+
+  -- ---- a shard
+
+  -- a shard that holds the same under the same terms
+  shard_alike : (arrivals : List Arrival) (old new : ShardState) → new.terms ≡ old.terms → new.state.held ≡ old.state.held → ShardCame arrivals old → ShardCame arrivals new
+  shard_alike arrivals old new terms held came = record {
+    setup_is = ap (λ (t : Terms). t.setup) terms ∙ came.setup_is;
+    holding = subst (All (IsKnown arrivals)) (sym held) came.holding;
+  }
+
+  -- the packet beside a claim's entry arrived with the entry's number and moment
+  abbrev SaysArrived : List Arrival → Told → Entry → Type 0
+  SaysArrived arrivals told (entry.Claim caller number epoch tag at answer) = (packet : List ℕ) → packet_of told ≡ Some packet → HasArrived arrivals number at packet
+  SaysArrived arrivals told (entry.Take caller number dest moment) = ⊤
+  SaysArrived arrivals told (entry.Rotate caller moment answer) = ⊤
+  SaysArrived arrivals told (entry.Done caller) = ⊤
+  SaysArrived arrivals told (entry.Reopened caller floor spent) = ⊤
+
+  abbrev AllArrived : List Arrival → List Told → Type 0
+  AllArrived arrivals entries = All (λ told. SaysArrived arrivals told told.entry) entries
+
+  module _ (tells : Type 0) (arrivals : List Arrival) where
+    -- the item of a claim
+    item_known : (terms : Terms) (number epoch : ℕ) (tag : List ℕ) (at : ℕ) (told : Told) (item : Item) → terms.setup ≡ packets_setup setup
+        → ((packet : List ℕ) → packet_of told ≡ Some packet → HasArrived arrivals number at packet) → IsItemOf suite terms number epoch tag at told item
+        → IsKnown arrivals item
+    item_known terms number epoch tag at told item same arrived is =
+        let from = arrived item.packet is.packet in
+        record {
+          from = record {
+            arrival = from.arrival;
+            arrived = from.arrived;
+            number_is = is.number_is ∙ from.number_is;
+            at_is = is.at_is ∙ from.at_is;
+            packet_is = from.packet_is;
+          };
+          held = is.is_held;
+          setup_is = is.setup ∙ same;
+        }
+
+    -- what is held after a claim
+    held_after : (result : Result (Unit {0}) ClaimFault) (item : Item) (old new : List Item) → HeldAfter result item old new → IsKnown arrivals item
+        → All (IsKnown arrivals) old → All (IsKnown arrivals) new
+    held_after (Ok _) item old new moved known all =
+        All-permutation (IsKnown arrivals) (old ++ item ∷ []) new moved (All-push (IsKnown arrivals) old item all known)
+    held_after (Err fault) item old new same known all = subst (All (IsKnown arrivals)) (sym same) all
+
+    unsound_holds : (terms : Terms) (answer : Answer) (old new : State) → StaysUnsound tells terms answer old new → All (IsKnown arrivals) old.held → All (IsKnown arrivals) new.held
+    unsound_holds terms answer old new stays all = subst (λ (s : State). All (IsKnown arrivals) s.held) (sym stays.new_is) all
+
+    -- what is held after an entry
+    says_holds : (terms : Terms) (told : Told) (one : Entry) (old new : State) → terms.setup ≡ packets_setup setup → SaysArrived arrivals told one
+        → Says tells suite terms told one old new → All (IsKnown arrivals) old.held → All (IsKnown arrivals) new.held
+    says_holds terms told (entry.Claim caller number epoch tag at answer) old new same arrived (active, item, is, claims) all =
+        elim claims [
+          | inl taken ↦ held_after taken.result item old.held new.held taken.held (item_known terms number epoch tag at told item same arrived is) all
+          | inr stays ↦ unsound_holds terms answer old new stays all
+        ]
+    says_holds terms told (entry.Take caller number dest moment) old new same arrived takes all =
+        All-tail (IsKnown arrivals) takes.item new.held (All-permutation (IsKnown arrivals) old.held (takes.item ∷ new.held) takes.rest all)
+    says_holds terms told (entry.Rotate caller moment answer) old new same arrived says all =
+        elim says [
+          | inl rotates ↦ subst (All (IsKnown arrivals)) (sym rotates.held) all
+          | inr stays ↦ unsound_holds terms answer old new stays all
+        ]
+    says_holds terms told (entry.Done caller) old new same arrived says all = subst (λ (s : State). All (IsKnown arrivals) s.held) (sym says.1) all
+    says_holds terms told (entry.Reopened caller floor pairs) old new same arrived opens all = subst (λ (s : State). All (IsKnown arrivals) s.held) (sym opens.new_is) all
+
+    -- and after entries
+    steps_hold : (terms : Terms) (entries : List Told) (old new : State) → terms.setup ≡ packets_setup setup → AllArrived arrivals entries
+        → Steps tells suite terms old entries new → All (IsKnown arrivals) old.held → All (IsKnown arrivals) new.held
+    steps_hold terms [] old new same arrived is all = subst (λ (s : State). All (IsKnown arrivals) s.held) (sym is) all
+    steps_hold terms (told ∷ others) old new same arrived (between, step, steps) all =
+        let P : Told → Type 0 = λ told. SaysArrived arrivals told told.entry in
+        steps_hold terms others between new same (All-tail P told others arrived) steps
+        (says_holds terms told told.entry old between same (All-head P told others arrived) step all)
+
+    -- an entry alone that is no claim's
+    one_arrived : (one : Entry) (told : Told) (own : List Told) → SaysArrived arrivals told one → told.entry ≡ one → own ≡ told ∷ [] → AllArrived arrivals own
+    one_arrived one told own arrived is same =
+        let P : Told → Type 0 = λ told. SaysArrived arrivals told told.entry in
+        subst (All P) (sym same) (All-cons P told [] (subst (SaysArrived arrivals told) (sym is) arrived) (All-nil P))
+
+    none_arrived : (own : List Told) → own ≡ [] → AllArrived arrivals own
+    none_arrived own none = subst (AllArrived arrivals) (sym none) (All-nil (λ told. SaysArrived arrivals told told.entry))
+
+    opening_arrived : (caller : ℕ) (opening : List Told) → IsOpeningBy caller opening → AllArrived arrivals opening
+    opening_arrived caller opening (inl none) = none_arrived opening none
+    opening_arrived caller opening (inr (told, floor, pairs, same, is)) = one_arrived (entry.Reopened caller floor pairs) told opening tt is same
+
+    rotation_arrived : (caller moment : ℕ) (answer : Option Answer) (own : List Told) → IsRotateEntry caller moment answer own → AllArrived arrivals own
+    rotation_arrived caller moment None own none = none_arrived own none
+    rotation_arrived caller moment (Some answer) own (told, same, is) = one_arrived (entry.Rotate caller moment answer) told own tt is same
+
+    -- the entry of a claim is of the item that a worker held
+    claim_arrived : (caller : ℕ) (item : Item) (answer : Option Answer) (own : List Told) → CameFrom arrivals item → IsClaimEntry caller item answer own → AllArrived arrivals own
+    claim_arrived caller item None own from none = none_arrived own none
+    claim_arrived caller item (Some answer) own from (told, same, is, beside) =
+        one_arrived (entry.Claim caller item.number item.epoch item.tag item.at answer) told own
+        (λ packet there.
+        let some : Some item.packet ≡ Some packet = sym beside ∙ there in
+        let packet_is : item.packet ≡ packet = cc in
+        subst (HasArrived arrivals item.number item.at) packet_is from)
+        is same
+
+    -- what a call adds to the tale
+    adds_came : (caller : ℕ) (Own : List Told → Type 0) (old new : ShardState) → ((own : List Told) → Own own → AllArrived arrivals own)
+        → Adds tells suite caller Own old new → ShardCame arrivals old → ShardCame arrivals new
+    adds_came caller Own old new arrived adds came = record {
+      setup_is = ap (λ (t : Terms). t.setup) adds.began.terms ∙ came.setup_is;
+      holding = steps_hold old.terms (adds.opening ++ adds.own) old.state new.state came.setup_is
+          (All-append (λ told. SaysArrived arrivals told told.entry) adds.opening adds.own (opening_arrived caller adds.opening adds.by_caller) (arrived adds.own adds.own_is))
+          adds.steps came.holding;
     }
 
--- a worker takes the oldest arrival: it unwraps it, or the packet is refused
-came_settled : (setup : Setup) (arrivals : List Arrival) (old : NodeState) (worker : ℕ) (arrival : Arrival) (found : Result (ℕ × Opened) Refused) → Came setup arrivals old
-    → Contains arrivals arrival → ((epoch : ℕ) (opened : Opened) → found ≡ Ok (epoch, opened) → IsOpening setup arrival (live_epochs setup.times arrival.at) epoch opened)
-    → Came setup arrivals (settled old worker arrival found).1
-came_settled setup arrivals old worker arrival (Ok found) came arrived opens = record {
-  next = came.next;
-  waiting = came.waiting;
-  working = All-set (λ slot. IfSome slot (CameFrom setup arrivals)) old.workers worker (Some (item_of arrival found.0 found.1))
-      (record { arrival = arrival; arrived = arrived; epoch = found.0; opened = found.1; opening = opens found.0 found.1 refl; same = refl }) came.working;
-  holding = came.holding;
-}
-came_settled setup arrivals old worker arrival (Err why) came arrived opens = came
+    refused_came : (fault : OpenStore) (old new : ShardState) → RefusesOpening fault old new → ShardCame arrivals old → ShardCame arrivals new
+    refused_came open_store.Memory old new same came = shard_alike arrivals old new same.began.terms (ap (λ (s : State). s.held) same.state) came
+    refused_came open_store.Failed old new failed came = shard_alike arrivals old new failed.began.terms (ap (λ (s : State). s.held) failed.state) came
+    refused_came (open_store.Foreign area at) old new failed came = shard_alike arrivals old new failed.began.terms (ap (λ (s : State). s.held) failed.state) came
+    refused_came (open_store.OtherShape stored) old new failed came = shard_alike arrivals old new failed.began.terms (ap (λ (s : State). s.held) failed.state) came
 
-came_opened : (setup : Setup) (arrivals : List Arrival) (old : NodeState) (worker : ℕ) (arrival : Arrival) (keys : Option (List (ℕ × List ℕ))) (lines : List ReportLine) (new : NodeState)
-    → Came setup arrivals old → Contains arrivals arrival → live_keys setup arrival.at ≡ keys
-    → option_map (settled old worker arrival) (option_map (λ ks. first_open (map (opened_with setup arrival) ks)) keys) ≡ Some (lines, new)
-    → Came setup arrivals new
-came_opened setup arrivals old worker arrival None lines new came arrived has step = absurd (cc)
-came_opened setup arrivals old worker arrival (Some keys) lines new came arrived has step =
-    let found : Result (ℕ × Opened) Refused = first_open (map (opened_with setup arrival) keys) in
-    let made : settled old worker arrival found ≡ (lines, new) = cc in
-    subst (λ (m : List ReportLine × NodeState). Came setup arrivals m.1) made
-    (came_settled setup arrivals old worker arrival found came arrived
-    (λ epoch opened is. opening_at setup arrival (live_epochs setup.times arrival.at) keys epoch opened has is))
+    -- an opening
+    readied_came : (result : Result Book OpenStore) (old new : ShardState) → IfOk result (λ book. IsReady tells suite 0 book old new) → IfErr result (λ fault. RefusesOpening fault old new)
+        → ShardCame arrivals old → ShardCame arrivals new
+    readied_came (Ok book) old new ready refused came = adds_came 0 (λ own. own ≡ []) old new none_arrived ready.adds came
+    readied_came (Err fault) old new ready refused came = refused_came fault old new refused came
 
-came_taken : (setup : Setup) (arrivals : List Arrival) (old : NodeState) (worker : ℕ) (waiting : List Arrival) (lines : List ReportLine) (new : NodeState)
-    → Came setup arrivals old → All (Contains arrivals) waiting → taken setup old worker waiting ≡ Some (lines, new) → Came setup arrivals new
-came_taken setup arrivals old worker [] lines new came waits step =
-    let made : (says.Idle worker ∷ [], old) ≡ (lines, new) = cc in subst (λ (m : List ReportLine × NodeState). Came setup arrivals m.1) made came
-came_taken setup arrivals old worker (arrival ∷ others) lines new came waits step =
-    came_opened setup arrivals (record old { arrivals = others }) worker arrival (live_keys setup arrival.at) lines new
-    (record { next = came.next; waiting = All-tail (Contains arrivals) arrival others waits; working = came.working; holding = came.holding })
-    (All-head (Contains arrivals) arrival others waits) refl step
+    -- a shard after a crash
+    crashed_came : (pick : ℕ) (old new : ShardState) → CrashesShard tells pick old new → ShardCame arrivals old → ShardCame arrivals new
+    crashed_came pick old new crash came =
+        subst (ShardCame arrivals) (sym crash.shard) (record { setup_is = came.setup_is; holding = All-nil (IsKnown arrivals) })
 
-came_peeled : (setup : Setup) (arrivals : List Arrival) (old : NodeState) (worker : ℕ) (holds : Option Item) (lines : List ReportLine) (new : NodeState)
-    → Came setup arrivals old → peeled_by setup old worker holds ≡ Some (lines, new) → Came setup arrivals new
-came_peeled setup arrivals old worker (Some item) lines new came step =
-    let made : (says.Busy worker ∷ [], old) ≡ (lines, new) = cc in subst (λ (m : List ReportLine × NodeState). Came setup arrivals m.1) made came
-came_peeled setup arrivals old worker None lines new came step = came_taken setup arrivals old worker old.arrivals lines new came came.waiting step
+    -- ---- a node
 
--- what a worker holds
-came_worker : (setup : Setup) (arrivals : List Arrival) (old : NodeState) (worker : ℕ) → Came setup arrivals old → IfSome (worker_at old worker) (CameFrom setup arrivals)
-came_worker setup arrivals old worker came =
-    let P : Option Item → Type 0 = λ slot. IfSome slot (CameFrom setup arrivals) in
-    elim (cases_lt worker (length old.workers)) [
-      | inl inside ↦ All-get_or P old.workers worker None inside came.working
-      | inr past ↦ subst P (sym (get_or_past old.workers worker None past)) tt
-    ]
+    -- a node in which one shard changed
+    came_at : (Changes : ShardState → ShardState → Type 0) (place : ℕ) (old new : NodeState)
+        → ((before after : ShardState) → Changes before after → ShardCame arrivals before → ShardCame arrivals after)
+        → AtShard Changes place old new → Came arrivals old → Came arrivals new
+    came_at Changes place old new keeps at came =
+        subst (Came arrivals) (sym at.new_is) (record {
+          next = came.next;
+          waiting = came.waiting;
+          working = came.working;
+          shards = All-set (ShardCame arrivals) old.shards place at.after
+              (keeps at.before at.after at.changes (all_at (ShardCame arrivals) old.shards place at.before came.shards at.there)) came.shards;
+        })
 
--- a worker claims: an accepted packet is held
-came_admitted : (setup : Setup) (arrivals : List Arrival) (old : NodeState) (item : Item) (answer : Claim) (book : Book) (lines : List ReportLine) (new : NodeState)
-    → Came setup arrivals old → CameFrom setup arrivals item → Admits old item answer book lines new → Came setup arrivals new
-came_admitted setup arrivals old item claims.Accepted book lines new came from admitted =
-    subst (Came setup arrivals) (sym admitted.1)
-    (record { next = came.next; waiting = came.waiting; working = came.working; holding = All-push (CameFrom setup arrivals) old.held item came.holding from })
-came_admitted setup arrivals old item (claims.Retired floor) book lines new came from admitted = subst (Came setup arrivals) (sym admitted.1) came
-came_admitted setup arrivals old item claims.Spent book lines new came from admitted = subst (Came setup arrivals) (sym admitted.1) came
+    came_opened : (shard : ℕ) (result : Result Book OpenStore) (old new : NodeState) → AtShard (Readies tells suite result) shard old new → Came arrivals old → Came arrivals new
+    came_opened shard result old new at came =
+        came_at (Readies tells suite result) shard old new (λ before after readies was. readied_came result before after readies.ok readies.refused was) at came
 
-came_claimed : (setup : Setup) (arrivals : List Arrival) (old : NodeState) (worker : ℕ) (holds : Option Item) (lines : List ReportLine) (new : NodeState)
-    → Came setup arrivals old → IfSome holds (CameFrom setup arrivals) → ClaimsFor setup old worker holds lines new → Came setup arrivals new
-came_claimed setup arrivals old worker None lines new came from step = subst (Came setup arrivals) (sym step.1) came
-came_claimed setup arrivals old worker (Some item) lines new came from (answer, book, claimed, admitted) =
-    came_admitted setup arrivals (record old { workers = slice_set old.workers worker None }) item answer book lines new
-    (record {
+    came_rotated : (moment shard : ℕ) (result : Result (Unit {0}) RotateFault) (old new : NodeState) → AtShard (Retires tells suite moment result) shard old new
+        → Came arrivals old → Came arrivals new
+    came_rotated moment shard result old new at came =
+        came_at (Retires tells suite moment result) shard old new
+        (λ before after retires was. adds_came 0 (IsRotateEntry 0 moment (rotate_answer result)) before after (rotation_arrived 0 moment (rotate_answer result)) retires.told was) at came
+
+    came_armed : (calls shard : ℕ) (old new : NodeState) → AtShard (node.Arms calls) shard old new → Came arrivals old → Came arrivals new
+    came_armed calls shard old new at came =
+        came_at (node.Arms calls) shard old new
+        (λ before after arms was. shard_alike arrivals before after (ap (λ (s : ShardState). s.terms) arms) (ap (λ (s : ShardState). s.state.held) arms) was) at came
+
+    came_crashed : (pick : ℕ) (old new : NodeState) → node.Crashes tells pick old new → Came arrivals old → Came arrivals new
+    came_crashed pick old new crashes came =
+        subst (Came arrivals) (sym crashes.new_is) (record {
+          next = came.next;
+          waiting = All-nil (Contains arrivals);
+          working = none_came arrivals;
+          shards = at_each (ShardCame arrivals) new.shards old.shards crashes.shards_are.count
+              (λ place after before there was. crashed_came pick before after (crashes.shards_are.each place before after was there)
+              (all_at (ShardCame arrivals) old.shards place before came.shards was));
+        })
+
+    -- a worker takes the oldest arrival: it holds its packet, or the packet is refused
+    came_settled : (old : NodeState) (worker : ℕ) (arrival : Arrival) (found : Result Item Refused) → ((item : Item) → found ≡ Ok item → CameFrom arrivals item)
+        → Came arrivals old → Came arrivals (settled old worker arrival.number found).1
+    came_settled old worker arrival (Ok item) from came = record {
       next = came.next;
       waiting = came.waiting;
-      working = All-set (λ slot. IfSome slot (CameFrom setup arrivals)) old.workers worker None tt came.working;
-      holding = came.holding;
-    }) from admitted
+      working = All-set (λ slot. IfSome slot (CameFrom arrivals)) old.workers worker (Some item) (from item refl) came.working;
+      shards = came.shards;
+    }
+    came_settled old worker arrival (Err why) from came = came
 
--- a packet is handed on
-came_sent : (setup : Setup) (arrivals : List Arrival) (old : NodeState) (moment : ℕ) (lines : List ReportLine) (new : NodeState)
-    → Came setup arrivals old → Sends old moment lines new → Came setup arrivals new
-came_sent setup arrivals old moment lines new came (inl none) = subst (Came setup arrivals) (sym none.2) came
-came_sent setup arrivals old moment lines new came (inr (place, item, first, said, same)) =
-    subst (Came setup arrivals) (sym same)
-    (record {
-      next = came.next;
-      waiting = came.waiting;
-      working = came.working;
-      holding = All-append (CameFrom setup arrivals) (take place old.held) (drop (suc place) old.held)
-          (All-take (CameFrom setup arrivals) place old.held came.holding) (All-drop (CameFrom setup arrivals) (suc place) old.held came.holding);
-    })
+    came_unwrapped : (old : NodeState) (worker : ℕ) (arrival : Arrival) (found : Option (Result Item Refused)) (answer : Peeled) (new : NodeState)
+        → ((item : Item) → found ≡ Some (Ok item) → CameFrom arrivals item) → option_map (settled old worker arrival.number) found ≡ Some (answer, new)
+        → Came arrivals old → Came arrivals new
+    came_unwrapped old worker arrival None answer new from step came = absurd (cc)
+    came_unwrapped old worker arrival (Some found) answer new from step came =
+        let made : settled old worker arrival.number found ≡ (answer, new) = cc in
+        subst (λ (m : Peeled × NodeState). Came arrivals m.1) made (came_settled old worker arrival found (λ item is. from item (ap Some is)) came)
 
--- what came by one event more
-came_by : (setup : Setup) (arrivals : List Arrival) (old : NodeState) (event : Event) (lines : List ReportLine) (new : NodeState)
-    → Came setup arrivals old → Step setup old event lines new → Came setup (arrivals ++ arrival_by (1 + length arrivals) event) new
-came_by setup arrivals old (events.Recv moment packet) lines new came step =
-    let more : List Arrival = arrivals ++ record { number = 1 + length arrivals; at = moment; packet = packet } ∷ [] in
-    let received_so : Came setup more (received old moment packet) =
-    subst (λ (n : ℕ). Came setup (arrivals ++ record { number = n; at = moment; packet = packet } ∷ []) (received old moment packet)) came.next
-    (came_received setup arrivals old moment packet came) in
-    subst (Came setup more) (sym step.1) received_so
-came_by setup arrivals old (events.Peel worker) lines new came step =
-    subst (λ (a : List Arrival). Came setup a new) (sym (append-nil arrivals)) (came_peeled setup arrivals old worker (worker_at old worker) lines new came step)
-came_by setup arrivals old (events.Claim worker) lines new came step =
-    subst (λ (a : List Arrival). Came setup a new) (sym (append-nil arrivals))
-    (came_claimed setup arrivals old worker (worker_at old worker) lines new came (came_worker setup arrivals old worker came) step)
-came_by setup arrivals old (events.Send moment) lines new came step =
-    subst (λ (a : List Arrival). Came setup a new) (sym (append-nil arrivals)) (came_sent setup arrivals old moment lines new came step)
-came_by setup arrivals old (events.Rotate moment) lines new came step =
-    subst (λ (a : List Arrival). Came setup a new) (sym (append-nil arrivals)) (subst (Came setup arrivals) (sym step.1) came)
-came_by setup arrivals old (events.Arm shard calls) lines new came step =
-    subst (λ (a : List Arrival). Came setup a new) (sym (append-nil arrivals)) (subst (Came setup arrivals) (sym step.1) came)
-came_by setup arrivals old (events.Crash pick) lines new came step =
-    subst (λ (a : List Arrival). Came setup a new) (sym (append-nil arrivals)) (subst (Came setup arrivals) (sym step.1) came)
-came_by setup arrivals old events.Skip lines new came step =
-    subst (λ (a : List Arrival). Came setup a new) (sym (append-nil arrivals)) (subst (Came setup arrivals) (sym step.1) came)
+    came_taken : (old : NodeState) (worker : ℕ) (waiting : List Arrival) (answer : Peeled) (new : NodeState) → All (Contains arrivals) waiting
+        → taken suite old worker waiting ≡ Some (answer, new) → Came arrivals old → Came arrivals new
+    came_taken old worker [] answer new waits step came =
+        let made : (peels.Idle, old) ≡ (answer, new) = cc in subst (λ (m : Peeled × NodeState). Came arrivals m.1) made came
+    came_taken old worker (arrival ∷ others) answer new waits step came =
+        came_unwrapped (record old { arrivals = others }) worker arrival (items.peeled suite (packets_setup old.setup) arrival.number arrival.at arrival.packet) answer new
+        (λ item opens. peeled_came suite (packets_setup old.setup) arrivals arrival item (All-head (Contains arrivals) arrival others waits) opens) step
+        (record { next = came.next; waiting = All-tail (Contains arrivals) arrival others waits; working = came.working; shards = came.shards })
 
--- the arrivals of events and of one event more
-arrivals-push : (number : ℕ) (done : List (ℕ × Event)) (event : ℕ × Event)
-    → arrivals_from number (done ++ event ∷ []) ≡ arrivals_from number done ++ arrival_by (number + length (arrivals_from number done)) event.1
-arrivals-push number [] event =
-    append-nil (arrival_by number event.1) ∙ ap (λ (n : ℕ). arrival_by n event.1) (omega arith)
-arrivals-push number (first ∷ done) event =
-    let came : List Arrival = arrival_by number first.1 in
-    let later : ℕ = number + length came in
-    let rest : List Arrival = arrivals_from later done in
-    let count : later + length rest ≡ number + length (came ++ rest) = omega (arith, length-append came rest) in
-    ap (λ (a : List Arrival). came ++ a) (arrivals-push later done event)
-    ∙ sym (append_assoc came rest (arrival_by (later + length rest) event.1))
-    ∙ ap (λ (n : ℕ). (came ++ rest) ++ arrival_by n event.1) count
+    came_peeled : (old : NodeState) (worker : ℕ) (holds : Option Item) (answer : Peeled) (new : NodeState) → taken_by suite old worker holds ≡ Some (answer, new)
+        → Came arrivals old → Came arrivals new
+    came_peeled old worker (Some item) answer new step came =
+        let made : (peels.Busy, old) ≡ (answer, new) = cc in subst (λ (m : Peeled × NodeState). Came arrivals m.1) made came
+    came_peeled old worker None answer new step came = came_taken old worker old.arrivals answer new came.waiting step came
 
--- where a list of lines has one, in the first part or in the second
-no_line : (lines : List ReportLine) (line : ReportLine) (others : List ReportLine) → [] ≡ lines ++ line ∷ others → ⊥
-no_line [] line others same = absurd (cc)
-no_line (first ∷ lines) line others same = absurd (cc)
+    -- what a worker holds
+    came_worker : (old : NodeState) (worker : ℕ) → Came arrivals old → IfSome (worker_at old worker) (CameFrom arrivals)
+    came_worker old worker came =
+        let P : Option Item → Type 0 = λ slot. IfSome slot (CameFrom arrivals) in
+        elim (cases_lt worker (length old.workers)) [
+          | inl inside ↦ All-get_or P old.workers worker None inside came.working
+          | inr past ↦ subst P (sym (get_or_past old.workers worker None past)) tt
+        ]
 
-one_line : (first : ReportLine) (lines : List ReportLine) (line : ReportLine) (others : List ReportLine) → first ∷ [] ≡ lines ++ line ∷ others → (lines ≡ []) × (first ≡ line)
-one_line first [] line others same = (refl, cc)
-one_line first (second ∷ lines) line others same =
-    let rest : [] ≡ lines ++ line ∷ others = cc in absurd (no_line lines line others rest)
+    came_claimed : (old : NodeState) (worker : ℕ) (holds : Option Item) (answer : Claimed) (new : NodeState) → IfSome holds (CameFrom arrivals)
+        → ClaimsFor tells suite worker holds answer old new → Came arrivals old → Came arrivals new
+    came_claimed old worker None answer new from step came = subst (Came arrivals) (sym step.1) came
+    came_claimed old worker (Some item) answer new from claims came =
+        came_at (Admits tells suite item claims.result) (node.place_of old.setup item.tag) (record old { workers = slice_set old.workers worker None }) new
+        (λ before after admits was. adds_came 0 (IsClaimEntry 0 item (admit_answer claims.result)) before after
+        (λ own is. claim_arrived 0 item (admit_answer claims.result) own from is) admits.told was)
+        claims.asks
+        (record {
+          next = came.next;
+          waiting = came.waiting;
+          working = All-set (λ slot. IfSome slot (CameFrom arrivals)) old.workers worker None tt came.working;
+          shards = came.shards;
+        })
 
-split : (front back lines : List ReportLine) (line : ReportLine) (others : List ReportLine) → front ++ back ≡ lines ++ line ∷ others
-    → ((behind : List ReportLine) × (front ≡ lines ++ line ∷ behind)) ⊎ ((between : List ReportLine) × (lines ≡ front ++ between) × (back ≡ between ++ line ∷ others))
-split [] back lines line others same = inr (lines, refl, same)
-split (first ∷ front) back [] line others same =
-    let is : first ≡ line = cc in inl (front, ap (λ (l : ReportLine). l ∷ front) is)
-split (first ∷ front) back (second ∷ lines) line others same =
-    let is : first ≡ second = cc in
-    let rest : front ++ back ≡ lines ++ line ∷ others = cc in
-    elim (split front back lines line others rest) [
-      | inl (behind, at) ↦ inl (behind, ap (λ (l : ReportLine). l ∷ front) is ∙ ap (λ (ls : List ReportLine). second ∷ ls) at)
-      | inr (between, at, after) ↦ inr (between, ap (λ (ls : List ReportLine). second ∷ ls) at ∙ ap (λ (l : ReportLine). l ∷ (front ++ between)) (sym is), after)
-    ]
+    -- a packet is handed on
+    came_sent : (moment : ℕ) (item : Item) (old new : NodeState) → SendsItem tells suite moment item old new → Came arrivals old → Came arrivals new
+    came_sent moment item old new sends came =
+        let took : Entry = entry.Take 0 item.number (destination item.out) moment in
+        came_at (GivesUp tells suite moment item) sends.place old new
+        (λ before after gives was. adds_came 0 (IsEntry took) before after (λ own is. one_arrived took is.0 own tt is.2 is.1) gives.told was) sends.gives came
 
--- an event that hands a packet on is a `send`, and the packet is held and due
-record Sent (old : NodeState) (event : Event) (lines : List ReportLine) (item : Item) : Type 0 where
-  moment : ℕ
-  is : event ≡ events.Send moment
-  first : lines ≡ []
-  place : ℕ
-  held : slice_get old.held place ≡ Some item
-  due : item.due ≤ moment
+    -- a packet arrives
+    came_received : (old : NodeState) (moment : ℕ) (packet : List ℕ) → Came arrivals old
+        → Came (arrivals ++ record { number = old.next; at = moment; packet = packet } ∷ []) (received old moment packet)
+    came_received old moment packet came =
+        let arrival : Arrival = record { number = old.next; at = moment; packet = packet } in
+        let more : List Arrival = arrivals ++ arrival ∷ [] in
+        record {
+          next = omega (arith, came.next, length-append arrivals (arrival ∷ []));
+          waiting = All-push (Contains more) old.arrivals arrival
+              (All-weaker (Contains arrivals) (Contains more) (λ a found. Contains-append_left arrivals (arrival ∷ []) a found) old.arrivals came.waiting)
+              (Contains-push arrivals arrival);
+          working = All-weaker (λ slot. IfSome slot (CameFrom arrivals)) (λ slot. IfSome slot (CameFrom more)) (slot_more arrivals (arrival ∷ [])) old.workers came.working;
+          shards = All-weaker (ShardCame arrivals) (ShardCame more) (shard_more arrivals (arrival ∷ [])) old.shards came.shards;
+        }
 
--- no other line hands a packet on
-abbrev HandsNothing : List ReportLine → Type 0
-HandsNothing said = (lines : List ReportLine) (item : Item) (others : List ReportLine) → said ≡ lines ++ says.Handed item ∷ others → ⊥
+    -- an act by which nothing arrives
+    no_more : (new : NodeState) → Came arrivals new → Came (arrivals ++ []) new
+    no_more new came = subst (λ (all : List Arrival). Came all new) (sym (append-nil arrivals)) came
 
-nothing_said : HandsNothing []
-nothing_said lines item others same = no_line lines (says.Handed item) others same
+    -- what came by one act more
+    came_by : (old : NodeState) (act : Act) (lines : List Line) (new : NodeState) → Does tells suite act lines old new → Came arrivals old
+        → Came (arrivals ++ arrival_by (1 + length arrivals) act) new
+    came_by old (Opens shard) lines new (result, opens, says) came = no_more new (came_opened shard result old new opens came)
+    came_by old (Reopens shard) lines new (result, opens, says) came = no_more new (came_opened shard result old new opens came)
+    came_by old (Receives moment packet) lines new (same, says) came =
+        let more : ℕ → List Arrival = λ number. arrivals ++ record { number = number; at = moment; packet = packet } ∷ [] in
+        subst (Came (more (1 + length arrivals))) (sym same)
+        (subst (λ (number : ℕ). Came (more number) (received old moment packet)) came.next (came_received old moment packet came))
+    came_by old (Peels worker) lines new (answer, peels, says) came = no_more new (came_peeled old worker (worker_at old worker) answer new peels came)
+    came_by old (Claims worker) lines new (answer, claims, says) came =
+        no_more new (came_claimed old worker (worker_at old worker) answer new (came_worker old worker came) claims came)
+    came_by old (Sends moment) lines new (inl none) came = no_more new (subst (Came arrivals) (sym none.1) came)
+    came_by old (Sends moment) lines new (inr (item, sends, says)) came = no_more new (came_sent moment item old new sends came)
+    came_by old (Rotates moment shard) lines new (result, retires, says) came = no_more new (came_rotated moment shard result old new retires came)
+    came_by old (Arms shard calls) lines new (arms, says) came = no_more new (came_armed calls shard old new arms came)
+    came_by old (Crashes pick) lines new (crashes, says) came = no_more new (came_crashed pick old new crashes came)
 
-settled_says : (old : NodeState) (worker : ℕ) (arrival : Arrival) (found : Result (ℕ × Opened) Refused) → HandsNothing (settled old worker arrival found).0
-settled_says old worker arrival (Ok found) = nothing_said
-settled_says old worker arrival (Err why) =
-    λ lines item others same. let is : says.Refuse arrival.number why ≡ says.Handed item = (one_line (says.Refuse arrival.number why) lines (says.Handed item) others same).1 in absurd (cc)
+  -- what came by a run
+  came_run : (tells : Type 0) (arrivals : List Arrival) (acts : List Act) (old : NodeState) (said : List Line) (new : NodeState) → Runs tells suite old acts said new
+      → Came arrivals old → Came (arrivals ++ arrivals_from (1 + length arrivals) acts) new
+  came_run tells arrivals [] old said new (none, same) came = no_more tells arrivals new (subst (Came arrivals) (sym same) came)
+  came_run tells arrivals (act ∷ acts) old said new (between, lines, others, does, run, joined) came =
+      let first : List Arrival = arrival_by (1 + length arrivals) act in
+      let count : 1 + length (arrivals ++ first) ≡ (1 + length arrivals) + length first = omega (arith, length-append arrivals first) in
+      let rest : Came ((arrivals ++ first) ++ arrivals_from (1 + length (arrivals ++ first)) acts) new =
+      came_run tells (arrivals ++ first) acts between others new run (came_by tells arrivals old act lines between does came) in
+      subst (λ (all : List Arrival). Came all new)
+      (append_assoc arrivals first (arrivals_from (1 + length (arrivals ++ first)) acts)
+      ∙ ap (λ (n : ℕ). arrivals ++ (first ++ arrivals_from n acts)) count)
+      rest
 
-opened_says : (old : NodeState) (worker : ℕ) (arrival : Arrival) (opened : Option (Result (ℕ × Opened) Refused)) (said : List ReportLine) (new : NodeState)
-    → option_map (settled old worker arrival) opened ≡ Some (said, new) → HandsNothing said
-opened_says old worker arrival None said new step = absurd (cc)
-opened_says old worker arrival (Some found) said new step =
-    let made : settled old worker arrival found ≡ (said, new) = cc in
-    subst (λ (m : List ReportLine × NodeState). HandsNothing m.0) made (settled_says old worker arrival found)
+  -- in a new node there is nothing
+  came_first : (racks : List RackState) (start : NodeState) → IsNewNode setup racks start → Came [] start
+  came_first racks start is = record {
+    next = is.next_is;
+    waiting = subst (All (Contains [])) (sym is.arrivals_are) (All-nil (Contains []));
+    working = subst (All (λ slot. IfSome slot (CameFrom []))) (sym is.workers_are) (none_came []);
+    shards = at_each (ShardCame []) start.shards racks is.count
+        (λ place shard rack there was. subst (ShardCame []) (sym (is.each place rack shard was there)) (record { setup_is = refl; holding = All-nil (IsKnown []) }));
+  }
 
-taken_says : (setup : Setup) (old : NodeState) (worker : ℕ) (waiting : List Arrival) (said : List ReportLine) (new : NodeState)
-    → taken setup old worker waiting ≡ Some (said, new) → HandsNothing said
-taken_says setup old worker [] said new step =
-    let pair : (says.Idle worker ∷ [], old) ≡ (said, new) = cc in
-    let made : says.Idle worker ∷ [] ≡ said = ap (λ (p : List ReportLine × NodeState). p.0) pair in
-    λ lines item others same. let is : says.Idle worker ≡ says.Handed item = (one_line (says.Idle worker) lines (says.Handed item) others (made ∙ same)).1 in absurd (cc)
-taken_says setup old worker (arrival ∷ others) said new step =
-    opened_says (record old { arrivals = others }) worker arrival (opened_at setup arrival) said new step
+  -- what the shards of a node hold
+  shards_hold : (arrivals : List Arrival) (shards : List ShardState) → All (ShardCame arrivals) shards → All (IsKnown arrivals) (all_held shards)
+  shards_hold arrivals [] all = All-nil (IsKnown arrivals)
+  shards_hold arrivals (shard ∷ shards) all =
+      All-append (IsKnown arrivals) shard.state.held (all_held shards) (All-head (ShardCame arrivals) shard shards all).holding
+      (shards_hold arrivals shards (All-tail (ShardCame arrivals) shard shards all))
 
-peeled_says : (setup : Setup) (old : NodeState) (worker : ℕ) (holds : Option Item) (said : List ReportLine) (new : NodeState)
-    → peeled_by setup old worker holds ≡ Some (said, new) → HandsNothing said
-peeled_says setup old worker (Some held) said new step =
-    let pair : (says.Busy worker ∷ [], old) ≡ (said, new) = cc in
-    let made : says.Busy worker ∷ [] ≡ said = ap (λ (p : List ReportLine × NodeState). p.0) pair in
-    λ lines item others same. let is : says.Busy worker ≡ says.Handed item = (one_line (says.Busy worker) lines (says.Handed item) others (made ∙ same)).1 in absurd (cc)
-peeled_says setup old worker None said new step = taken_says setup old worker old.arrivals said new step
+-- ---- honest lines
 
-admitted_says : (old : NodeState) (held : Item) (answer : Claim) (book : Book) (said : List ReportLine) (new : NodeState) → Admits old held answer book said new → HandsNothing said
-admitted_says old held claims.Accepted book said new admitted = λ lines item others same. nothing_said lines item others (sym admitted.0 ∙ same)
-admitted_says old held (claims.Retired floor) book said new admitted =
-    λ lines item others same. let is : says.Retired held.number floor ≡ says.Handed item = (one_line (says.Retired held.number floor) lines (says.Handed item) others (sym admitted.0 ∙ same)).1 in absurd (cc)
-admitted_says old held claims.Spent book said new admitted =
-    λ lines item others same. let is : says.Spent held.number ≡ says.Handed item = (one_line (says.Spent held.number) lines (says.Handed item) others (sym admitted.0 ∙ same)).1 in absurd (cc)
-
-claimed_says : (setup : Setup) (old : NodeState) (worker : ℕ) (holds : Option Item) (said : List ReportLine) (new : NodeState)
-    → ClaimsFor setup old worker holds said new → HandsNothing said
-claimed_says setup old worker None said new step =
-    λ lines item others same. let is : says.Empty worker ≡ says.Handed item = (one_line (says.Empty worker) lines (says.Handed item) others (sym step.0 ∙ same)).1 in absurd (cc)
-claimed_says setup old worker (Some held) said new (answer, book, claimed, admitted) =
-    admitted_says (record old { workers = slice_set old.workers worker None }) held answer book said new admitted
-
-sent_by : (old : NodeState) (moment : ℕ) (said : List ReportLine) (new : NodeState) (lines : List ReportLine) (item : Item) (others : List ReportLine)
-    → Sends old moment said new → said ≡ lines ++ says.Handed item ∷ others → Sent old (events.Send moment) lines item
-sent_by old moment said new lines item others (inl none) same =
-    let is : says.NoneDue ≡ says.Handed item = (one_line says.NoneDue lines (says.Handed item) others (sym none.1 ∙ same)).1 in absurd (cc)
-sent_by old moment said new lines item others (inr (place, sent, first, gave, after)) same =
-    let one = one_line (says.Handed sent) lines (says.Handed item) others (sym gave ∙ same) in
-    let line : says.Handed sent ≡ says.Handed item = one.1 in
-    let is : sent ≡ item = cc in
+-- what a shard holds and a `send` gives when it is due is honest
+honest_when : (tells : Type 0) (suite : SuiteMeaning) (setup : NodeSetup) (start : NodeState) (acts : List Act) (lines : List Line) (item : Item) → InRange setup.times
+    → (handed : HandedOn tells suite start acts lines item) → IsKnown suite setup (arrivals_from 1 handed.before) item → IsHonest tells suite setup start acts lines item
+honest_when tells suite setup start acts lines item range handed known =
+    let from = known.from in
+    let opening = held_opening suite item known.held in
+    let live : Contains (live_epochs setup.times item.at) item.epoch =
+    subst (λ (s : Setup). Contains (live_epochs s.times item.at) item.epoch) known.setup_is opening.live in
     record {
-      moment = moment;
-      is = refl;
-      first = one.0;
-      place = place;
-      held = first.there ∙ ap Some is;
-      due = subst (λ (i : Item). i.due ≤ moment) is first.due;
+      before = handed.before;
+      moment = handed.moment;
+      behind = handed.behind;
+      sent = handed.sent;
+      state = handed.state;
+      so_far = handed.so_far;
+      arrival = from.arrival;
+      arrived = from.arrived;
+      number = from.number_is;
+      live = subst (λ (at : ℕ). IsTrue (is_live setup.times item.epoch at)) from.at_is ((live_exactly setup.times item.at range item.epoch).1 live);
+      key = opening.key;
+      of_epoch = subst (λ (s : Setup). epoch_secret_key suite.kem s.seed item.epoch ≡ Some opening.key) known.setup_is opening.of_epoch;
+      opened = opening.opened;
+      unwraps = subst (λ (packet : List ℕ). unwrapped suite setup.geo opening.key packet ≡ Ok opening.opened) from.packet_is
+          (subst (λ (s : Setup). unwrapped suite s.geometry opening.key item.packet ≡ Ok opening.opened) known.setup_is opening.unwraps);
+      tag = opening.tag;
+      out = opening.out;
+      waited = subst (λ (at : ℕ). at + unwrap_or opening.opened.delay 0 ≤ handed.moment) from.at_is
+          (subst (λ (due : ℕ). due ≤ handed.moment) opening.due handed.sends.first.is_due.due);
     }
 
-sent_in : (setup : Setup) (old : NodeState) (event : Event) (said : List ReportLine) (new : NodeState) (lines : List ReportLine) (item : Item) (others : List ReportLine)
-    → Step setup old event said new → said ≡ lines ++ says.Handed item ∷ others → Sent old event lines item
-sent_in setup old (events.Recv moment packet) said new lines item others step same = absurd (nothing_said lines item others (sym step.0 ∙ same))
-sent_in setup old (events.Peel worker) said new lines item others step same = absurd (peeled_says setup old worker (worker_at old worker) said new step lines item others same)
-sent_in setup old (events.Claim worker) said new lines item others step same = absurd (claimed_says setup old worker (worker_at old worker) said new step lines item others same)
-sent_in setup old (events.Send moment) said new lines item others step same = sent_by old moment said new lines item others step same
-sent_in setup old (events.Rotate moment) said new lines item others step same = absurd (nothing_said lines item others (sym step.0 ∙ same))
-sent_in setup old (events.Arm shard calls) said new lines item others step same = absurd (nothing_said lines item others (sym step.0 ∙ same))
-sent_in setup old (events.Crash pick) said new lines item others step same = absurd (nothing_said lines item others (sym step.0 ∙ same))
-sent_in setup old events.Skip said new lines item others step same = absurd (nothing_said lines item others (sym step.0 ∙ same))
-
--- what is held came from an arrival
-held_came : (setup : Setup) (arrivals : List Arrival) (old : NodeState) (place : ℕ) (item : Item) → Came setup arrivals old → slice_get old.held place ≡ Some item → CameFrom setup arrivals item
-held_came setup arrivals old place item came there =
-    subst (CameFrom setup arrivals) (get_or_from_slice_get old.held place item item there)
-    (All-get_or (CameFrom setup arrivals) old.held place item (slice_get_within old.held place item there) came.holding)
-
--- what came from an arrival and is sent when it is due is honest
-honest_when : (setup : Setup) (all before behind : List (ℕ × Event)) (event : ℕ × Event) (state : NodeState) (said : List ReportLine) (item : Item) → InRange setup.times
-    → all ≡ before ++ event ∷ behind → Runs setup new_node before said state → CameFrom setup (arrivals_from 1 before) item → (moment : ℕ) → event.1 ≡ events.Send moment → item.due ≤ moment
-    → IsHonest setup all said item
-honest_when setup all before behind event state said item range whole run came moment is_send due = record {
-  before = before;
-  line = event.0;
-  moment = moment;
-  behind = behind;
-  sent = whole ∙ ap (λ (e : Event). before ++ (event.0, e) ∷ behind) is_send;
-  state = state;
-  so_far = run;
-  arrival = came.arrival;
-  arrived = came.arrived;
-  number = ap (λ (i : Item). i.number) came.same;
-  live = subst (λ (e : ℕ). IsTrue (is_live setup.times e came.arrival.at)) (sym (ap (λ (i : Item). i.epoch) came.same))
-      ((live_exactly setup.times came.arrival.at range came.epoch).1 came.opening.tried);
-  key = came.opening.key;
-  of_epoch = subst (λ (e : ℕ). epoch_secret_key lab_scheme setup.seed e ≡ Some came.opening.key) (sym (ap (λ (i : Item). i.epoch) came.same)) came.opening.of_epoch;
-  opened = came.opened;
-  unwraps = came.opening.unwraps;
-  tag = ap (λ (i : Item). i.tag) came.same;
-  out = ap (λ (i : Item). i.out) came.same;
-  waited = subst (λ (d : ℕ). d ≤ moment) (ap (λ (i : Item). i.due) came.same) due;
-}
-
--- a run from a state that a run of a new node reached hands on honestly
-honest_run : (setup : Setup) (past rest : List (ℕ × Event)) (said report : List ReportLine) (old new : NodeState) → InRange setup.times → Runs setup new_node past said old
-    → Came setup (arrivals_from 1 past) old → Runs setup old rest report new → (lines : List ReportLine) (item : Item) (others : List ReportLine)
-    → report ≡ lines ++ says.Handed item ∷ others → IsHonest setup (past ++ rest) (said ++ lines) item
-honest_run setup past [] said report old new range run came (none, same) lines item others at = absurd (no_line lines (says.Handed item) others (sym none ∙ at))
-honest_run setup past (event ∷ rest) said report old new range run came (between, front, back, step, further, joined) lines item others at =
-    elim (split front back lines (says.Handed item) others (sym joined ∙ at)) [
-      | inl (behind, here) ↦
-          let sent = sent_in setup old event.1 front between lines item behind step here in
-          let honest : IsHonest setup (past ++ event ∷ rest) said item =
-          honest_when setup (past ++ event ∷ rest) past rest event old said item range refl run
-          (held_came setup (arrivals_from 1 past) old sent.place item came sent.held) sent.moment sent.is sent.due in
-          let same : said ≡ said ++ lines = sym (ap (λ (ls : List ReportLine). said ++ ls) sent.first ∙ append-nil said) in
-          subst (λ (ls : List ReportLine). IsHonest setup (past ++ event ∷ rest) ls item) same honest
-      | inr (middle, before, after) ↦
-          let came_on : Came setup (arrivals_from 1 (past ++ event ∷ [])) between =
-          subst (λ (a : List Arrival). Came setup a between) (sym (arrivals-push 1 past event)) (came_by setup (arrivals_from 1 past) old event.1 front between came step) in
-          let later : IsHonest setup ((past ++ event ∷ []) ++ rest) ((said ++ front) ++ middle) item =
-          honest_run setup (past ++ event ∷ []) rest (said ++ front) back between new range (Runs-push setup past new_node said old event front between run step) came_on further middle item others after in
-          let same_lines : (said ++ front) ++ middle ≡ said ++ lines = append_assoc said front middle ∙ ap (λ (ls : List ReportLine). said ++ ls) (sym before) in
-          subst (λ (ls : List ReportLine). IsHonest setup (past ++ event ∷ rest) ls item) same_lines
-          (subst (λ (all : List (ℕ × Event)). IsHonest setup all ((said ++ front) ++ middle) item) (append_assoc past (event ∷ []) rest) later)
-    ]
-
--- a run of a new node hands on honestly
-honest_from_new : (setup : Setup) (all : List (ℕ × Event)) (report : List ReportLine) (end : NodeState) → InRange setup.times → Runs setup new_node all report end
-    → (lines : List ReportLine) (item : Item) (others : List ReportLine) → report ≡ lines ++ says.Handed item ∷ others → IsHonest setup all lines item
-honest_from_new setup all report end range run lines item others at =
-    honest_run setup [] all [] report new_node end range (refl, refl) (came_first setup) run lines item others at
-
--- what is honest for the first events is so for all
-honest_of_first : (setup : Setup) (all : List (ℕ × Event)) (count : ℕ) (lines : List ReportLine) (item : Item) → IsHonest setup (take count all) lines item → IsHonest setup all lines item
-honest_of_first setup all count lines item honest = record {
-  before = honest.before;
-  line = honest.line;
-  moment = honest.moment;
-  behind = honest.behind ++ drop count all;
-  sent = sym (take-append-drop count all) ∙ ap (λ (first : List (ℕ × Event)). first ++ drop count all) honest.sent
-      ∙ append_assoc honest.before ((honest.line, events.Send honest.moment) ∷ honest.behind) (drop count all);
-  state = honest.state;
-  so_far = honest.so_far;
-  arrival = honest.arrival;
-  arrived = honest.arrived;
-  number = honest.number;
-  live = honest.live;
-  key = honest.key;
-  of_epoch = honest.of_epoch;
-  opened = honest.opened;
-  unwraps = honest.unwraps;
-  tag = honest.tag;
-  out = honest.out;
-  waited = honest.waited;
-}
-
--- a report that is owed hands on honestly
-pub honest_owed : (setup : Setup) (whole : Events) (status : Status) (report : List ReportLine) → InRange setup.times → Owes (set_up setup whole) status report
-    → HandsOnHonestly (set_up setup whole) report
-honest_owed setup whole Done report range (ending, (end, run)) lines item others at = honest_from_new setup whole.list report end range run lines item others at
-honest_owed setup whole (Line number) report range (ending, (end, run)) lines item others at = honest_from_new setup whole.list report end range run lines item others at
-honest_owed setup whole (Later number) report range (ending, (end, run)) lines item others at = honest_from_new setup whole.list report end range run lines item others at
-honest_owed setup whole ReadFault report range (count, (end, run)) lines item others at =
-    honest_of_first setup whole.list count lines item (honest_from_new setup (take count whole.list) report end range run lines item others at)
-honest_owed setup whole WriteFault report range (count, (end, run)) lines item others at =
-    honest_of_first setup whole.list count lines item (honest_from_new setup (take count whole.list) report end range run lines item others at)
-honest_owed setup whole Memory report range (count, (end, run)) lines item others at =
-    honest_of_first setup whole.list count lines item (honest_from_new setup (take count whole.list) report end range run lines item others at)
-honest_owed setup whole Words report range owed lines item others at = absurd owed
-
--- a report without a line hands nothing on
-pub honest_nothing : (program : Program) → HandsOnHonestly program []
-honest_nothing program lines item others at = absurd (no_line lines (says.Handed item) others at)
+-- each packet that a run of a new node hands on is handed on honestly
+pub run_honest : (tells : Type 0) (suite : SuiteMeaning) (setup : NodeSetup) (start : NodeState) (racks : List RackState) → IsNewNode setup racks start → InRange setup.times
+    → (acts : List Act) (said : List Line) (state : NodeState) → Runs tells suite start acts said state
+    → (lines : List Line) (item : Item) (others : List Line) → said ≡ lines ++ HandsOn item ∷ others → IsHonest tells suite setup start acts lines item
+run_honest tells suite setup start racks new range acts said state run lines item others at =
+    let handed = Runs-split tells suite acts start state said lines item others run at in
+    let came : Came suite setup (arrivals_from 1 handed.before) handed.state =
+    came_run suite setup tells [] handed.before start lines handed.state handed.so_far (came_first suite setup racks start new) in
+    honest_when tells suite setup start acts lines item range handed
+    (All-contains (IsKnown suite setup (arrivals_from 1 handed.before)) (all_held handed.state.shards) item
+    (shards_hold suite setup (arrivals_from 1 handed.before) handed.state.shards came.shards) handed.sends.first.there)

@@ -1,7 +1,12 @@
-pub mod Giving
-pub mod HandedLines
-pub mod HonestLines
-pub mod Members
-pub mod Once
-pub mod Programs
-pub mod Tracking
+mod ActAnswers
+mod Covered
+mod Disks
+mod Empty
+mod Giving
+mod HonestLines
+mod Members
+mod Once
+mod Promise
+mod Runs
+mod ServedActs
+mod Tracking

@@ -1,294 +1,343 @@
--- At most once: a report hands on no pair of epoch and tag twice. Each pair that a node holds or has handed on is
--- covered by its book ever after, and a covered pair isn't accepted again.
-use Rattle.std.proofs.Common.{◌≡◌, ℕ, suc, ◌<◌, ◌≤◌, nat_lt, nat_le, Bool, true, false, cond, List, [], ◌∷◌, ◌++◌, take, drop, map, ◌⊎◌, inl, inr, refl, ap, ◌∙◌, sym, subst, slice_set, Option, Some, None, option_map, Result, Ok, Err, arith}
-use Rattle.std.specs.List.{Contains, remove, slice_get}
-use Rattle.std.proofs.Math.Seq.{drop-cons}
-use Rattle.std.proofs.lemmas.List.{map-append, take-append-drop}
-use Rattle.std.proofs.lemmas.Option.{slice_get_within, get_or_from_slice_get}
-use Rattle.std.proofs.lemmas.Bool.{cases_lt, ltb-true, le-leb}
-use Rattle.std.proofs.lemmas.List.Elements.{Contains-append_left, Contains-append_right, Contains-push, Contains-push_cases}
-use Rattle.mix_base.proofs.Members.{none_in_empty, Contains-filter, Contains-head, Contains-cons_cases}
-use Rattle.lab_text.specs.declared.statuses.Status.{Status}
-use Rattle.lab_text.specs.declared.statuses.Status.TheVariants.{Done, Words, Line, ReadFault, WriteFault, Memory, Later}
-use Rattle.lab_text.specs.declared.events.Event.{Event}
-use Rattle.lab_text.specs.declared.events.Event.TheVariants as events
-use Rattle.mix_top.proofs.Members.{Contains-without, NoneTwice-push, NoneTwice-without}
-use Rattle.mix_top.specs.Book.{Book, Claims, raise, add, kept}
-use Rattle.epoch_keys.specs.Epochs.{least_live}
-use Rattle.mix_top.specs.Report.{handed, NoneTwice}
-use Rattle.mix_top.specs.Node.{NodeState, new_node}
-use Rattle.mix_top.specs.Program.{Program}
-use Rattle.mix_top.specs.Promise.{IsReportOf, IsReportOfFirst, Owes}
-use Rattle.mix_top.specs.Run.{Runs}
-use Rattle.mix_top.specs.Keys.{opened_at}
-use Rattle.mix_top.specs.Step.{Step, peeled_by, taken, settled, worker_at, ClaimsFor, Admits, Sends, received}
-use Rattle.mix_top.specs.declared.items.Arrival.{Arrival}
-use Rattle.mix_top.specs.declared.items.Item.{Item}
-use Rattle.mix_top.specs.declared.items.Setup.{Setup}
-use Rattle.mix_top.specs.declared.report.ReportLine.{ReportLine}
-use Rattle.mix_top.specs.declared.report.ReportLine.TheVariants as lines
-use Rattle.mix_top.specs.declared.book.Claim.{Claim}
-use Rattle.mix_top.specs.declared.book.Claim.TheVariants as claims
-use Rattle.sphinx_unwrap.specs.declared.outcome.Opened.{Opened}
+-- At most once: a report hands on no pair of epoch and replay tag twice, over every crash, and none that a disk covered before; and
+-- what was handed on stays covered.
+use Rattle.std.proofs.Common.{◌≡◌, ◌≢◌, ℕ, ◌<◌, ◌≤◌, List, [], ◌∷◌, ◌++◌, length, take, set, inl, inr, Option, Some, None, option_map, Result, Ok, Err, refl, sym, ap, ◌∙◌, subst, arith}
+use Rattle.std.specs.List.{All, Contains, slice_get}
+use Rattle.std.proofs.Math.Nat.{mod-lt}
+use Rattle.std.proofs.lemmas.Bool.Decides.{eqb_tells}
+use Rattle.std.proofs.lemmas.Grind.{flat_map-append}
+use Rattle.std.proofs.lemmas.List.{append_assoc, append-nil, length-set}
+use Rattle.std.proofs.lemmas.List.Elements.{All-cons, All-nil}
+use Rattle.std.proofs.lemmas.Option.{slice_get_within}
+use Rattle.mix_base.specs.Suites.{SuiteMeaning}
+use Rattle.mix_base.proofs.Members.{Contains-head, none_in_empty}
+use Rattle.replay_disk.specs.Disk.{AreAtRest, RackState}
+use Rattle.spent_store.specs.Books.{IsCovered, StoredBook}
+use Rattle.spent_store.specs.Journals.{Journal}
+use Rattle.spent_store.specs.Stores.{book_in}
+use Rattle.spent_store.specs.declared.faults.Objection.{Objection}
+use Rattle.spent_store.specs.declared.faults.OpenStore.{OpenStore}
+use Rattle.spent_store.specs.declared.summary.Book.{Book}
 use Rattle.sphinx_unwrap.specs.declared.faults.Refused.{Refused}
+use Rattle.mix_shard.specs.Items as items
+use Rattle.mix_shard.specs.Items.{Item}
+use Rattle.mix_shard.specs.Laws.{AllCover, NoneTwice}
+use Rattle.mix_shard.specs.Shards.{ShardState}
+use Rattle.mix_shard.specs.Tale.{began}
+use Rattle.mix_shard.specs.declared.faults.RotateFault.{RotateFault}
+use Rattle.node_core.specs.Nodes.{AtShard, IsNewNode, IsNewShard, NodeState, packets_setup, shape_at, terms_at}
+use Rattle.node_core.specs.Steps.{ClaimsFor, CrashesShard, Readies, Retires, SendsItem, place_of, settled, taken, taken_by, worker_at}
+use Rattle.node_core.specs.Steps as node
+use Rattle.node_core.specs.declared.answers.Claimed.{Claimed}
+use Rattle.node_core.specs.declared.answers.Peeled.{Peeled}
+use Rattle.node_core.specs.declared.answers.Peeled.TheVariants as peels
+use Rattle.node_core.specs.declared.arrivals.Arrival.{Arrival}
+use Rattle.node_core.specs.declared.setup.NodeSetup.{NodeSetup}
+use Rattle.node_core.proofs.Places.{other_place, same_place}
+use Rattle.lab_text.specs.declared.statuses.Status.{Status}
+use Rattle.mix_top.specs.Acts.{Act, Opens, Reopens, Receives, Peels, Claims, Sends, Rotates, Arms, Crashes}
+use Rattle.mix_top.specs.Headline.{WasHeld}
+use Rattle.mix_top.specs.Report.{Line, handed, handed_by, pair_of}
+use Rattle.mix_top.specs.Run.{Runs}
+use Rattle.mix_top.specs.Steps.{Does, Ends}
+use Rattle.mix_top.proofs.Covered.{Acts, Holds, IsTracked, Keeps, Empties, Takes, Gives, arms_acts, claims_acts, crash_acts, gives_acts, held_pairs, readies_acts, rotates_acts, sent_here, tracked_beside, tracked_on}
+use Rattle.mix_top.proofs.Runs.{claimed_silent, opened_silent, peeled_silent, reopened_silent, rotated_silent}
+use Rattle.mix_top.proofs.Members.{NoneTwice-push, all_at, all_within, at_front, at_within, none_more, times}
 
--- the pair is below the floor, or spent
-abbrev pub Covers : Book → ℕ × List ℕ → Type 0
-Covers book pair = (pair.0 < book.floor) ⊎ Contains book.pairs pair
+-- ---- a node through an act
 
--- a book that is raised covers what it covered
-raised : (book : Book) (least : ℕ) (pair : ℕ × List ℕ) (rises : Bool) → nat_lt book.floor least ≡ rises → Covers book pair →
-    Covers (cond rises (record { floor = least; pairs = kept book.pairs least }) book) pair
-raised book least pair false is covered = covered
-raised book least pair true is covered =
-    elim (cases_lt pair.0 least) [
-      | inl below ↦ inl below
-      | inr above ↦
-          elim covered [
-            | inl retired ↦ absurd (omega (arith, above, retired, ltb-true book.floor least is))
-            | inr spent ↦ inr (Contains-filter (λ (entry : ℕ × List ℕ). nat_le least entry.0) book.pairs pair spent (le-leb least pair.0 above))
-          ]
-    ]
+-- what an act does to the shards, and the pairs that are handed on
+data Moves (setup : NodeSetup) (old new : NodeState) (sent : List (ℕ × List ℕ)) : Type 0 where
+  -- none changes
+  Rests : new.setup ≡ old.setup → new.shards ≡ old.shards → sent ≡ [] → Moves setup old new sent
+  -- one does
+  Changes : (place : ℕ) → (before after : ShardState) → slice_get old.shards place ≡ Some before → new.setup ≡ old.setup
+      → new.shards ≡ set old.shards place after → Acts setup place before after sent → Moves setup old new sent
+  -- each does, and hands nothing on
+  Each : new.setup ≡ old.setup → length new.shards ≡ length old.shards
+      → ((index : ℕ) (before after : ShardState) → slice_get old.shards index ≡ Some before → slice_get new.shards index ≡ Some after → Acts setup index before after [])
+      → sent ≡ [] → Moves setup old new sent
 
-raise-covers : (book : Book) (least : ℕ) (pair : ℕ × List ℕ) → Covers book pair → Covers (raise book least) pair
-raise-covers book least pair covered = raised book least pair (nat_lt book.floor least) refl covered
+-- one shard changes
+one_changes : (setup : NodeSetup) (Change : ShardState → ShardState → Type 0) (place : ℕ) (old state new : NodeState) (sent : List (ℕ × List ℕ)) → state.setup ≡ old.setup
+    → state.shards ≡ old.shards → AtShard Change place state new → ((before after : ShardState) → Change before after → Acts setup place before after sent)
+    → Moves setup old new sent
+one_changes setup Change place old state new sent same shards at acts =
+    Changes place at.before at.after (subst (λ (all : List ShardState). slice_get all place ≡ Some at.before) shards at.there)
+    (ap (λ (n : NodeState). n.setup) at.new_is ∙ same)
+    (ap (λ (n : NodeState). n.shards) at.new_is ∙ ap (λ (all : List ShardState). set all place at.after) shards)
+    (acts at.before at.after at.changes)
 
--- a book that a pair was added to covers what it covered, and that pair
-add-covers : (book : Book) (epoch : ℕ) (tag : List ℕ) (pair : ℕ × List ℕ) → Covers book pair → Covers (add book epoch tag) pair
-add-covers book epoch tag pair (inl retired) = inl retired
-add-covers book epoch tag pair (inr spent) = inr (Contains-append_left book.pairs ((epoch, tag) ∷ []) pair spent)
+-- an unwrapping changes no shard
+settled_rests : (setup : NodeSetup) (old state new : NodeState) (worker number : ℕ) (result : Result Item Refused) (answer : Peeled) → state.setup ≡ old.setup
+    → state.shards ≡ old.shards → settled state worker number result ≡ (answer, new) → Moves setup old new []
+settled_rests setup old state new worker number (Ok item) answer same shards is =
+    Rests (sym (ap (λ (r : Peeled × NodeState). r.1.setup) is) ∙ same) (sym (ap (λ (r : Peeled × NodeState). r.1.shards) is) ∙ shards) refl
+settled_rests setup old state new worker number (Err why) answer same shards is =
+    Rests (sym (ap (λ (r : Peeled × NodeState). r.1.setup) is) ∙ same) (sym (ap (λ (r : Peeled × NodeState). r.1.shards) is) ∙ shards) refl
 
--- a pair as a list of items has them
-abbrev pub pair_of : Item → ℕ × List ℕ
-pair_of item = (item.epoch, item.tag)
+opened_rests : (setup : NodeSetup) (old state new : NodeState) (worker number : ℕ) (found : Option (Result Item Refused)) (answer : Peeled) → state.setup ≡ old.setup
+    → state.shards ≡ old.shards → option_map (settled state worker number) found ≡ Some (answer, new) → Moves setup old new []
+opened_rests setup old state new worker number None answer same shards is = absurd (cc)
+opened_rests setup old state new worker number (Some result) answer same shards is =
+    let settles : settled state worker number result ≡ (answer, new) = cc in settled_rests setup old state new worker number result answer same shards settles
 
--- what is held is covered, each pair once
-pub record IsOnce (state : NodeState) : Type 0 where
-  pub once : NoneTwice (map pair_of state.held)
-  pub covered : (pair : ℕ × List ℕ) → Contains (map pair_of state.held) pair → Covers state.book pair
+taken_rests : (suite : SuiteMeaning) (setup : NodeSetup) (old new : NodeState) (worker : ℕ) (arrivals : List Arrival) (answer : Peeled)
+    → taken suite old worker arrivals ≡ Some (answer, new) → Moves setup old new []
+taken_rests suite setup old new worker [] answer is =
+    let settles : (peels.Idle, old) ≡ (answer, new) = cc in
+    Rests (sym (ap (λ (r : Peeled × NodeState). r.1.setup) settles)) (sym (ap (λ (r : Peeled × NodeState). r.1.shards) settles)) refl
+taken_rests suite setup old new worker (arrival ∷ others) answer is =
+    opened_rests setup old (record old { arrivals = others }) new worker arrival.number
+    (items.peeled suite (packets_setup old.setup) arrival.number arrival.at arrival.packet) answer refl refl is
 
--- what an event does to the packets held, to the book and to what was handed on
-data Moves (old : NodeState) (lines : List ReportLine) (new : NodeState) : Type 0 where
-  Keeps : handed lines ≡ [] → new.held ≡ old.held → new.book ≡ old.book → Moves old lines new
-  Accepts : (item : Item) (least : ℕ) → handed lines ≡ [] → new.held ≡ old.held ++ item ∷ [] → old.book.floor ≤ item.epoch
-      → (Contains old.book.pairs (pair_of item) → ⊥) → new.book ≡ add (raise old.book least) item.epoch item.tag → Moves old lines new
-  HandsOn : (place : ℕ) (item : Item) → handed lines ≡ pair_of item ∷ [] → slice_get old.held place ≡ Some item
-      → new.held ≡ remove old.held place → new.book ≡ old.book → Moves old lines new
+peel_rests : (suite : SuiteMeaning) (setup : NodeSetup) (old new : NodeState) (worker : ℕ) (holds : Option Item) (answer : Peeled)
+    → taken_by suite old worker holds ≡ Some (answer, new) → Moves setup old new []
+peel_rests suite setup old new worker (Some item) answer is =
+    let settles : (peels.Busy, old) ≡ (answer, new) = cc in
+    Rests (sym (ap (λ (r : Peeled × NodeState). r.1.setup) settles)) (sym (ap (λ (r : Peeled × NodeState). r.1.shards) settles)) refl
+peel_rests suite setup old new worker None answer is = taken_rests suite setup old new worker old.arrivals answer is
 
--- lines that hand nothing on, and a node with the same packets and book
-keeps : (old : NodeState) (made : List ReportLine × NodeState) (lines : List ReportLine) (new : NodeState) → handed made.0 ≡ []
-    → made.1.held ≡ old.held → made.1.book ≡ old.book → made ≡ (lines, new) → Moves old lines new
-keeps old made lines new nothing held book same =
-    Keeps (sym (ap (λ (m : List ReportLine × NodeState). handed m.0) same) ∙ nothing)
-    (sym (ap (λ (m : List ReportLine × NodeState). m.1.held) same) ∙ held)
-    (sym (ap (λ (m : List ReportLine × NodeState). m.1.book) same) ∙ book)
+-- nothing changes
+nothing_changes : (setup : NodeSetup) (old new : NodeState) → new ≡ old → Moves setup old new []
+nothing_changes setup old new same = Rests (ap (λ (n : NodeState). n.setup) same) (ap (λ (n : NodeState). n.shards) same) refl
 
-settled_moves : (old state : NodeState) (worker : ℕ) (arrival : Arrival) (found : Result (ℕ × Opened) Refused) (lines : List ReportLine) (new : NodeState)
-    → state.held ≡ old.held → state.book ≡ old.book → settled state worker arrival found ≡ (lines, new) → Moves old lines new
-settled_moves old state worker arrival (Ok found) lines new held book same = keeps old _ lines new refl held book same
-settled_moves old state worker arrival (Err why) lines new held book same = keeps old _ lines new refl held book same
+-- ---- each act
 
-opened_moves : (old state : NodeState) (worker : ℕ) (arrival : Arrival) (opened : Option (Result (ℕ × Opened) Refused)) (lines : List ReportLine) (new : NodeState)
-    → state.held ≡ old.held → state.book ≡ old.book → option_map (settled state worker arrival) opened ≡ Some (lines, new) → Moves old lines new
-opened_moves old state worker arrival None lines new held book same = absurd (cc)
-opened_moves old state worker arrival (Some found) lines new held book same =
-    let made : settled state worker arrival found ≡ (lines, new) = cc in settled_moves old state worker arrival found lines new held book made
+-- an act whose lines hand nothing on
+nothing : (setup : NodeSetup) (old new : NodeState) (lines : List Line) → handed lines ≡ [] → Moves setup old new [] → Moves setup old new (handed lines)
+nothing setup old new lines none moves = subst (λ (pairs : List (ℕ × List ℕ)). Moves setup old new pairs) (sym none) moves
 
-taken_moves : (setup : Setup) (old : NodeState) (worker : ℕ) (arrivals : List Arrival) (lines : List ReportLine) (new : NodeState)
-    → taken setup old worker arrivals ≡ Some (lines, new) → Moves old lines new
-taken_moves setup old worker [] said new same =
-    let made : (lines.Idle worker ∷ [], old) ≡ (said, new) = cc in keeps old (lines.Idle worker ∷ [], old) said new refl refl refl made
-taken_moves setup old worker (arrival ∷ others) lines new same =
-    opened_moves old (record old { arrivals = others }) worker arrival (opened_at setup arrival) lines new refl refl same
+module _ (tells : Type 0) (t : tells) (suite : SuiteMeaning) (setup : NodeSetup) where
+  ready_moves : (shard : ℕ) (result : Result Book OpenStore) (old new : NodeState) → AtShard (Readies tells suite result) shard old new → Moves setup old new []
+  ready_moves shard result old new at =
+      one_changes setup (Readies tells suite result) shard old old new [] refl refl at (λ before after readies. readies_acts tells t suite setup shard result before after readies)
 
-peel_moves : (setup : Setup) (old : NodeState) (worker : ℕ) (holds : Option Item) (lines : List ReportLine) (new : NodeState)
-    → peeled_by setup old worker holds ≡ Some (lines, new) → Moves old lines new
-peel_moves setup old worker (Some item) said new same =
-    let made : (lines.Busy worker ∷ [], old) ≡ (said, new) = cc in keeps old (lines.Busy worker ∷ [], old) said new refl refl refl made
-peel_moves setup old worker None lines new same = taken_moves setup old worker old.arrivals lines new same
+  rotate_moves : (shard moment : ℕ) (result : Result (Unit {0}) RotateFault) (old new : NodeState) → AtShard (Retires tells suite moment result) shard old new → Moves setup old new []
+  rotate_moves shard moment result old new at =
+      one_changes setup (Retires tells suite moment result) shard old old new [] refl refl at
+      (λ before after retires. rotates_acts tells t suite setup shard moment result before after retires)
 
--- lines that hand nothing on, and the same packets and book, from what a step says of them
-stays : (old state : NodeState) (lines made : List ReportLine) (new : NodeState) → handed made ≡ [] → state.held ≡ old.held → state.book ≡ old.book
-    → lines ≡ made → new ≡ state → Moves old lines new
-stays old state lines made new nothing held book said same =
-    Keeps (ap handed said ∙ nothing) (ap (λ (s : NodeState). s.held) same ∙ held) (ap (λ (s : NodeState). s.book) same ∙ book)
+  claim_moves : (worker : ℕ) (holds : Option Item) (answer : Claimed) (old new : NodeState) → old.setup ≡ setup → ClaimsFor tells suite worker holds answer old new → Moves setup old new []
+  claim_moves worker None answer old new same claims = nothing_changes setup old new claims.1
+  claim_moves worker (Some item) answer old new same claims =
+      let place : place_of old.setup item.tag ≡ place_of setup item.tag = ap (λ (s : NodeSetup). place_of s item.tag) same in
+      one_changes setup (node.Admits tells suite item claims.result) (place_of old.setup item.tag) old (record old { workers = set old.workers worker None }) new [] refl refl claims.asks
+      (λ before after admits. subst (λ (index : ℕ). Acts setup index before after []) (sym place) (claims_acts tells t suite setup item claims.result before after admits))
 
-admit_moves : (old state : NodeState) (item : Item) (least : ℕ) (answer : Claim) (book : Book) (lines : List ReportLine) (new : NodeState)
-    → state.held ≡ old.held → state.book ≡ old.book → Claims old.book item.epoch item.tag least answer book → Admits state item answer book lines new
-    → Moves old lines new
-admit_moves old state item least claims.Accepted book lines new held same claimed admitted =
-    Accepts item least (ap handed admitted.0) (ap (λ (s : NodeState). s.held) admitted.1 ∙ ap (λ (h : List Item). h ++ item ∷ []) held) claimed.0 claimed.1
-    (ap (λ (s : NodeState). s.book) admitted.1 ∙ claimed.2)
-admit_moves old state item least (claims.Retired floor) book lines new held same claimed admitted =
-    stays old state lines _ new refl held same admitted.0 admitted.1
-admit_moves old state item least claims.Spent book lines new held same claimed admitted =
-    stays old state lines _ new refl held same admitted.0 admitted.1
+  send_moves : (moment : ℕ) (item : Item) (old new : NodeState) → SendsItem tells suite moment item old new → Moves setup old new (pair_of item ∷ [])
+  send_moves moment item old new sends =
+      one_changes setup (node.GivesUp tells suite moment item) sends.place old old new (pair_of item ∷ []) refl refl sends.gives
+      (λ before after gives. gives_acts tells t suite setup sends.place moment item before after gives)
 
-claim_moves : (setup : Setup) (old : NodeState) (worker : ℕ) (holds : Option Item) (lines : List ReportLine) (new : NodeState)
-    → ClaimsFor setup old worker holds lines new → Moves old lines new
-claim_moves setup old worker None lines new step = stays old old lines _ new refl refl refl step.0 step.1
-claim_moves setup old worker (Some item) lines new (answer, book, claimed, admitted) =
-    admit_moves old (record old { workers = slice_set old.workers worker None }) item (least_live setup.times item.at) answer book lines new refl refl claimed admitted
+  -- each act moves the node so
+  moves_sent : (act : Act) (lines : List Line) (old new : NodeState) → old.setup ≡ setup → Does tells suite act lines old new → Moves setup old new (handed lines)
+  moves_sent (Opens shard) lines old new same does = nothing setup old new lines (opened_silent shard does.0 lines does.2) (ready_moves shard does.0 old new does.1)
+  moves_sent (Reopens shard) lines old new same does = nothing setup old new lines (reopened_silent shard does.0 lines does.2) (ready_moves shard does.0 old new does.1)
+  moves_sent (Receives moment packet) lines old new same does =
+      nothing setup old new lines (ap handed does.1) (Rests (ap (λ (n : NodeState). n.setup) does.0) (ap (λ (n : NodeState). n.shards) does.0) refl)
+  moves_sent (Peels worker) lines old new same does =
+      nothing setup old new lines (ap handed does.2 ∙ peeled_silent worker does.0) (peel_rests suite setup old new worker (worker_at old worker) does.0 does.1)
+  moves_sent (Claims worker) lines old new same does =
+      nothing setup old new lines (claimed_silent worker does.0 lines does.2) (claim_moves worker (worker_at old worker) does.0 old new same does.1)
+  moves_sent (Sends moment) lines old new same (inl none) = nothing setup old new lines (ap handed none.2) (nothing_changes setup old new none.1)
+  moves_sent (Sends moment) lines old new same (inr sends) =
+      subst (λ (pairs : List (ℕ × List ℕ)). Moves setup old new pairs) (sym (ap handed sends.2)) (send_moves moment sends.0 old new sends.1)
+  moves_sent (Rotates moment shard) lines old new same does = nothing setup old new lines (rotated_silent shard does.0 lines does.2) (rotate_moves shard moment does.0 old new does.1)
+  moves_sent (Arms shard calls) lines old new same does =
+      nothing setup old new lines (ap handed does.1)
+      (one_changes setup (node.Arms calls) shard old old new [] refl refl does.0 (λ before after arms. arms_acts tells t suite setup shard calls before after arms))
+  moves_sent (Crashes pick) lines old new same does =
+      nothing setup old new lines (ap handed does.1)
+      (Each (ap (λ (n : NodeState). n.setup) does.0.new_is) does.0.shards_are.count
+      (λ index before after was is. crash_acts tells t suite setup index pick before after (does.0.shards_are.each index before after was is)) refl)
 
-send_moves : (old : NodeState) (moment : ℕ) (lines : List ReportLine) (new : NodeState) → Sends old moment lines new → Moves old lines new
-send_moves old moment lines new (inl none) = stays old old lines _ new refl refl refl none.1 none.2
-send_moves old moment lines new (inr (place, item, first, said, same)) =
-    HandsOn place item (ap handed said) first.there (ap (λ (s : NodeState). s.held) same) (ap (λ (s : NodeState). s.book) same)
+  -- so does the act that ends a run, and hands nothing on
+  moves_last : (act : Act) (status : Status) (old new : NodeState) → old.setup ≡ setup → Ends tells suite act status old new → Moves setup old new []
+  moves_last (Opens shard) status old new same ends = ready_moves shard (Err ends.0) old new ends.1
+  moves_last (Reopens shard) status old new same ends = ready_moves shard (Err ends.0) old new ends.1
+  moves_last (Receives moment packet) status old new same ends = nothing_changes setup old new ends.1
+  moves_last (Peels worker) status old new same ends = nothing_changes setup old new ends.5
+  moves_last (Claims worker) status old new same ends = claim_moves worker (worker_at old worker) ends.0 old new same ends.1
+  moves_last (Sends moment) status old new same ends = absurd ends
+  moves_last (Rotates moment shard) status old new same ends = rotate_moves shard moment (Err ends.0) old new ends.1
+  moves_last (Arms shard calls) status old new same ends = absurd ends
+  moves_last (Crashes pick) status old new same ends = absurd ends
 
--- each event moves the node so
-moves : (setup : Setup) (old : NodeState) (event : Event) (lines : List ReportLine) (new : NodeState) → Step setup old event lines new → Moves old lines new
-moves setup old (events.Recv moment packet) lines new step = stays old (received old moment packet) lines _ new refl refl refl step.0 step.1
-moves setup old (events.Peel worker) lines new step = peel_moves setup old worker (worker_at old worker) lines new step
-moves setup old (events.Claim worker) lines new step = claim_moves setup old worker (worker_at old worker) lines new step
-moves setup old (events.Send moment) lines new step = send_moves old moment lines new step
-moves setup old (events.Rotate moment) lines new step = stays old old lines _ new refl refl refl step.0 step.1
-moves setup old (events.Arm shard calls) lines new step = stays old old lines _ new refl refl refl step.0 step.1
-moves setup old (events.Crash pick) lines new step = stays old old lines _ new refl refl refl step.0 step.1
-moves setup old events.Skip lines new step = stays old old lines _ new refl refl refl step.0 step.1
+-- ---- what holds of a node through a run
 
--- a list before, at and behind an item's place
-at_place : (items : List Item) (place : ℕ) (item : Item) → slice_get items place ≡ Some item → items ≡ take place items ++ item ∷ drop (suc place) items
-at_place items place item there =
-    sym (take-append-drop place items)
-    ∙ ap (λ (rest : List Item). take place items ++ rest)
-    (drop-cons items place item (slice_get_within items place item there)
-    ∙ ap (λ (x : Item). x ∷ drop (suc place) items) (get_or_from_slice_get items place item item there))
+-- the journal of a disk's shard at the beginning
+abbrev begun_journal : NodeSetup → ℕ → RackState → Journal
+begun_journal setup index rack = (began (terms_at setup index) rack.areas).journal
 
--- the pairs of the items before, at and behind the place, and without the one at it
-pairs_at : (items : List Item) (place : ℕ) (item : Item) → slice_get items place ≡ Some item →
-    map pair_of items ≡ map pair_of (take place items) ++ pair_of item ∷ map pair_of (drop (suc place) items)
-pairs_at items place item there = ap (map pair_of) (at_place items place item there) ∙ map-append pair_of (take place items) (item ∷ drop (suc place) items)
+-- over disks, when these pairs were handed on: none of them twice, and each shard is as it should be
+pub record IsOnce (setup : NodeSetup) (racks : List RackState) (out : List (ℕ × List ℕ)) (state : NodeState) : Type 0 where
+  pub setup_is : state.setup ≡ setup
+  pub count : length state.shards ≡ length racks
+  pub each : (index : ℕ) (rack : RackState) (shard : ShardState) → slice_get racks index ≡ Some rack → slice_get state.shards index ≡ Some shard
+      → IsTracked setup index (begun_journal setup index rack) out shard
+  pub once : NoneTwice out
 
-pairs_without : (items : List Item) (place : ℕ) → map pair_of (remove items place) ≡ map pair_of (take place items) ++ map pair_of (drop (suc place) items)
-pairs_without items place = map-append pair_of (take place items) (drop (suc place) items)
+module _ (setup : NodeSetup) (racks : List RackState) where
+  -- each shard has its disk, and each disk its shard
+  rack_at : (out : List (ℕ × List ℕ)) (state : NodeState) → IsOnce setup racks out state → (index : ℕ) (shard : ShardState) → slice_get state.shards index ≡ Some shard
+      → (rack : RackState) × (slice_get racks index ≡ Some rack)
+  rack_at out state is index shard there = at_within racks index (subst (λ (n : ℕ). index < n) is.count (slice_get_within state.shards index shard there))
 
--- what a move leaves is covered, each pair once
-moved_once : (old : NodeState) (lines : List ReportLine) (new : NodeState) → Moves old lines new → IsOnce old → IsOnce new
-moved_once old lines new (Keeps nothing held book) was = record {
-  once = subst (λ h. NoneTwice (map pair_of h)) (sym held) was.once;
-  covered = λ pair found. subst (λ b. Covers b pair) (sym book) (was.covered pair (subst (λ h. Contains (map pair_of h) pair) held found));
-}
-moved_once old lines new (Accepts item least nothing held above unspent book) was =
-    let pairs : map pair_of new.held ≡ map pair_of old.held ++ pair_of item ∷ [] = ap (map pair_of) held ∙ map-append pair_of old.held (item ∷ []) in
-    let absent : Contains (map pair_of old.held) (pair_of item) → ⊥ =
-    λ found. elim (was.covered (pair_of item) found) [ inl retired ↦ omega (arith, above, retired) | inr spent ↦ unspent spent ] in
-    record {
-      once = subst NoneTwice (sym pairs) (NoneTwice-push (map pair_of old.held) (pair_of item) was.once absent);
-      covered = λ pair found. subst (λ b. Covers b pair) (sym book) (elim (Contains-push_cases (map pair_of old.held) (pair_of item) pair (subst (λ ps. Contains ps pair) pairs found)) [
-        | inl before ↦ add-covers (raise old.book least) item.epoch item.tag pair (raise-covers old.book least pair (was.covered pair before))
-        | inr same ↦ inr (subst (λ p. Contains ((raise old.book least).pairs ++ pair_of item ∷ []) p) same (Contains-push (raise old.book least).pairs (pair_of item)))
-      ]);
-    }
-moved_once old lines new (HandsOn place item handed_on there held book) was =
-    let front = map pair_of (take place old.held) in
-    let back = map pair_of (drop (suc place) old.held) in
-    let was_at : map pair_of old.held ≡ front ++ pair_of item ∷ back = pairs_at old.held place item there in
-    let now : map pair_of new.held ≡ front ++ back = ap (map pair_of) held ∙ pairs_without old.held place in
-    record {
-      once = subst NoneTwice (sym now) (NoneTwice-without front (pair_of item) back (subst NoneTwice was_at was.once)).0;
-      covered = λ pair found. subst (λ b. Covers b pair) (sym book)
-          (was.covered pair (subst (λ ps. Contains ps pair) (sym was_at) (Contains-without front (pair_of item) back pair (subst (λ ps. Contains ps pair) now found))));
-    }
+  shard_at : (out : List (ℕ × List ℕ)) (state : NodeState) → IsOnce setup racks out state → (index : ℕ) (rack : RackState) → slice_get racks index ≡ Some rack
+      → (shard : ShardState) × (slice_get state.shards index ≡ Some shard)
+  shard_at out state is index rack there = at_within state.shards index (subst (λ (n : ℕ). index < n) (sym is.count) (slice_get_within racks index rack there))
 
-handed-append : (lines others : List ReportLine) → handed (lines ++ others) ≡ handed lines ++ handed others
-handed-append [] others = refl
-handed-append (lines.Handed item ∷ rest) others = ap (λ (ps : List (ℕ × List ℕ)). (item.epoch, item.tag) ∷ ps) (handed-append rest others)
-handed-append (lines.Refuse number why ∷ rest) others = handed-append rest others
-handed-append (lines.Idle worker ∷ rest) others = handed-append rest others
-handed-append (lines.Busy worker ∷ rest) others = handed-append rest others
-handed-append (lines.Retired number floor ∷ rest) others = handed-append rest others
-handed-append (lines.Spent number ∷ rest) others = handed-append rest others
-handed-append (lines.Empty worker ∷ rest) others = handed-append rest others
-handed-append (lines.NoneDue ∷ rest) others = handed-append rest others
+  -- nothing was done yet
+  begins_once : (start : NodeState) → IsNewNode setup racks start → All (λ rack. AreAtRest rack.areas) racks → IsOnce setup racks [] start
+  begins_once start is rest = record {
+    setup_is = is.setup_is;
+    count = is.count;
+    each = λ index rack shard rack_there there. let new = is.each index rack shard rack_there there in record {
+      charted = inl (subst (λ (s : ShardState). AreAtRest s.first.areas) (sym new) (all_at (λ (r : RackState). AreAtRest r.areas) racks index rack rest rack_there));
+      single = λ pair. subst (λ (s : ShardState). times pair (held_pairs s.state) ≤ 1) (sym new) (omega arith);
+      placed = λ pair found. absurd (none_at_first index rack shard new pair found);
+      unsent = λ pair found out. none_in_empty pair out;
+      covered = λ pair known. elim known [ inl found ↦ absurd (none_at_first index rack shard new pair found) | inr out ↦ absurd (none_in_empty pair out.0) ];
+      fresh = λ pair known first. elim known [ inl found ↦ none_at_first index rack shard new pair found | inr out ↦ none_in_empty pair out.0 ];
+      kept = λ pair first. subst (λ (s : ShardState). AllCover s.state.journal pair) (sym new) first;
+    };
+    once = tt;
+  }
+    where
+      none_at_first : (index : ℕ) (rack : RackState) (shard : ShardState) → IsNewShard setup index rack shard → (pair : ℕ × List ℕ) → Contains (held_pairs shard.state) pair → ⊥
+      none_at_first index rack shard new pair found = none_in_empty pair (subst (λ (s : ShardState). Contains (held_pairs s.state) pair) new found)
 
--- what a run from a state hands on: no pair twice, and none but those held then or not covered then
-pub record HandsOnOnce (state : NodeState) (pairs : List (ℕ × List ℕ)) : Type 0 where
-  pub once : NoneTwice pairs
-  pub from : (pair : ℕ × List ℕ) → Contains pairs pair → Contains (map pair_of state.held) pair ⊎ (Covers state.book pair → ⊥)
+  -- what the shard of a place hands on belongs to no other shard
+  sent_elsewhere : (out sent : List (ℕ × List ℕ)) (place index : ℕ) (first : Journal) (before after : ShardState) → IsTracked setup place first out before
+      → Holds setup place before after sent → index ≢ place → (pair : ℕ × List ℕ) → Contains sent pair → place_of setup pair.1 ≢ index
+  sent_elsewhere out sent place index first before after was holds other pair there same =
+      other (sym same ∙ was.placed pair (sent_here setup place first out sent before after was holds pair there))
 
--- the same of a run that begins with one move more
-move_first : (old : NodeState) (lines : List ReportLine) (between : NodeState) (others : List (ℕ × List ℕ)) → IsOnce old → Moves old lines between
-    → HandsOnOnce between others → HandsOnOnce old (handed lines ++ others)
-move_first old lines between others was (Keeps nothing held book) rest =
-    let same : handed lines ++ others ≡ others = ap (λ (ps : List (ℕ × List ℕ)). ps ++ others) nothing in
-    subst (HandsOnOnce old) (sym same) (record {
-      once = rest.once;
-      from = λ pair found. elim (rest.from pair found) [
-        | inl is_held ↦ inl (subst (λ h. Contains (map pair_of h) pair) held is_held)
-        | inr new ↦ inr (λ covered. new (subst (λ b. Covers b pair) (sym book) covered))
-      ];
-    })
-move_first old lines between others was (Accepts item least nothing held above unspent book) rest =
-    let same : handed lines ++ others ≡ others = ap (λ (ps : List (ℕ × List ℕ)). ps ++ others) nothing in
-    let pairs : map pair_of between.held ≡ map pair_of old.held ++ pair_of item ∷ [] = ap (map pair_of) held ∙ map-append pair_of old.held (item ∷ []) in
-    let uncovered : Covers old.book (pair_of item) → ⊥ =
-    λ covered. elim covered [ inl retired ↦ omega (arith, above, retired) | inr spent ↦ unspent spent ] in
-    subst (HandsOnOnce old) (sym same) (record {
-      once = rest.once;
-      from = λ pair found. elim (rest.from pair found) [
-        | inl is_held ↦ elim (Contains-push_cases (map pair_of old.held) (pair_of item) pair (subst (λ ps. Contains ps pair) pairs is_held)) [
-          | inl before ↦ inl before
-          | inr this ↦ inr (λ covered. uncovered (subst (λ p. Covers old.book p) (sym this) covered))
-        ]
-        | inr new ↦ inr (λ covered. new (subst (λ b. Covers b pair) (sym book) (add-covers (raise old.book least) item.epoch item.tag pair (raise-covers old.book least pair covered))))
-      ];
-    })
-move_first old lines between others was (HandsOn place item handed_on there held book) rest =
-    let front = map pair_of (take place old.held) in
-    let back = map pair_of (drop (suc place) old.held) in
-    let was_at : map pair_of old.held ≡ front ++ pair_of item ∷ back = pairs_at old.held place item there in
-    let now : map pair_of between.held ≡ front ++ back = ap (map pair_of) held ∙ pairs_without old.held place in
-    let was_held : Contains (map pair_of old.held) (pair_of item) =
-    subst (λ ps. Contains ps (pair_of item)) (sym was_at) (Contains-append_right front (pair_of item ∷ back) (pair_of item) (Contains-head (pair_of item) back)) in
-    let gone : Contains (map pair_of between.held) (pair_of item) → ⊥ =
-    λ found. (NoneTwice-without front (pair_of item) back (subst NoneTwice was_at was.once)).1 (subst (λ ps. Contains ps (pair_of item)) now found) in
-    let same : handed lines ++ others ≡ pair_of item ∷ others = ap (λ (ps : List (ℕ × List ℕ)). ps ++ others) handed_on in
-    subst (HandsOnOnce old) (sym same) (record {
-      once = (
-        λ found. elim (rest.from (pair_of item) found) [
-          | inl is_held ↦ gone is_held
-          | inr new ↦ new (subst (λ b. Covers b (pair_of item)) (sym book) (was.covered (pair_of item) was_held))
-        ],
-        rest.once,
-      );
-      from = λ pair found. elim (Contains-cons_cases (pair_of item) others pair found) [
-        | inl this ↦ inl (subst (λ p. Contains (map pair_of old.held) p) this was_held)
-        | inr later ↦ elim (rest.from pair later) [
-          | inl is_held ↦ inl (subst (λ ps. Contains ps pair) (sym was_at) (Contains-without front (pair_of item) back pair (subst (λ ps. Contains ps pair) now is_held)))
-          | inr new ↦ inr (λ covered. new (subst (λ b. Covers b pair) (sym book) covered))
-        ]
-      ];
-    })
+  -- and wasn't handed on before
+  sent_once : (out sent : List (ℕ × List ℕ)) (place : ℕ) (first : Journal) (before after : ShardState) → IsTracked setup place first out before
+      → Holds setup place before after sent → NoneTwice out → NoneTwice (out ++ sent)
+  sent_once out sent place first before after was (Keeps same none) once = subst NoneTwice (sym (none_more out sent none)) once
+  sent_once out sent place first before after was (Empties empty none) once = subst NoneTwice (sym (none_more out sent none)) once
+  sent_once out sent place first before after was (Takes item at shuffled uncovered covers none) once = subst NoneTwice (sym (none_more out sent none)) once
+  sent_once out sent place first before after was (Gives item shuffled one) once =
+      let there : Contains (held_pairs before.state) (pair_of item) =
+      sent_here setup place first out sent before after was (Gives item shuffled one) (pair_of item)
+      (subst (λ (s : List (ℕ × List ℕ)). Contains s (pair_of item)) (sym one) (Contains-head (pair_of item) [])) in
+      subst (λ (s : List (ℕ × List ℕ)). NoneTwice (out ++ s)) (sym one) (NoneTwice-push out (pair_of item) once (was.unsent (pair_of item) there))
 
--- a run hands on no pair twice
-run_once : (setup : Setup) (events : List (ℕ × Event)) (old : NodeState) (report : List ReportLine) (new : NodeState) → IsOnce old
-    → Runs setup old events report new → HandsOnOnce old (handed report)
-run_once setup [] old report new was (none, same) =
-    subst (HandsOnOnce old) (sym (ap handed none)) (record { once = tt; from = λ pair found. absurd (none_in_empty pair found) })
-run_once setup (event ∷ events) old report new was (between, lines, others, step, rest, joined) =
-    let move = moves setup old event.1 lines between step in
-    subst (HandsOnOnce old) (sym (ap handed joined ∙ handed-append lines others))
-    (move_first old lines between (handed others) was move (run_once setup events between others new (moved_once old lines between move was) rest))
+  -- after one shard's act
+  changed_each : (out sent : List (ℕ × List ℕ)) (old : NodeState) (place : ℕ) (before after : ShardState) → IsOnce setup racks out old
+      → slice_get old.shards place ≡ Some before → Acts setup place before after sent → (index : ℕ) (rack : RackState) (shard : ShardState)
+      → slice_get racks index ≡ Some rack → slice_get (set old.shards place after) index ≡ Some shard → IsTracked setup index (begun_journal setup index rack) (out ++ sent) shard
+  changed_each out sent old place before after was there acts index rack shard rack_there found =
+      elim (eqb_tells index place) [
+        | inl same ↦
+            let tracked : IsTracked setup index (begun_journal setup index rack) out before =
+            was.each index rack before rack_there (subst (λ (i : ℕ). slice_get old.shards i ≡ Some before) (sym same.1) there) in
+            let holds : Holds setup index before after sent = subst (λ (i : ℕ). Holds setup i before after sent) (sym same.1) acts.holds in
+            subst (IsTracked setup index (begun_journal setup index rack) (out ++ sent)) (same_place old.shards place index before after shard there same.1 found)
+            (tracked_on setup index (begun_journal setup index rack) out sent before after tracked acts.goes holds)
+        | inr other ↦
+            let own = rack_at out old was place before there in
+            tracked_beside setup index (begun_journal setup index rack) out sent shard
+            (was.each index rack shard rack_there (other_place old.shards place index after shard other.1 found))
+            (sent_elsewhere out sent place index (begun_journal setup place own.0) before after (was.each place own.0 before own.1 there) acts.holds other.1)
+      ]
 
--- a run of a new node hands on no pair twice
-at_most_once : (setup : Setup) (events : List (ℕ × Event)) (report : List ReportLine) (new : NodeState) → Runs setup new_node events report new → NoneTwice (handed report)
-at_most_once setup events report new run =
-    (run_once setup events new_node report new (record { once = tt; covered = λ pair found. absurd (none_in_empty pair found) }) run).once
+  -- after any act
+  once_moved : (out sent : List (ℕ × List ℕ)) (old new : NodeState) → IsOnce setup racks out old → Moves setup old new sent → IsOnce setup racks (out ++ sent) new
+  once_moved out sent old new was (Rests same shards none) =
+      subst (λ (o : List (ℕ × List ℕ)). IsOnce setup racks o new) (sym (none_more out sent none)) (record {
+        setup_is = same ∙ was.setup_is;
+        count = ap (λ (all : List ShardState). length all) shards ∙ was.count;
+        each = λ index rack shard rack_there there. was.each index rack shard rack_there (subst (λ (all : List ShardState). slice_get all index ≡ Some shard) shards there);
+        once = was.once;
+      })
+  once_moved out sent old new was (Changes place before after there same shards acts) =
+      let own = rack_at out old was place before there in
+      record {
+        setup_is = same ∙ was.setup_is;
+        count = ap (λ (all : List ShardState). length all) shards ∙ length-set old.shards place after ∙ was.count;
+        each = λ index rack shard rack_there found. changed_each out sent old place before after was there acts index rack shard rack_there
+            (subst (λ (all : List ShardState). slice_get all index ≡ Some shard) shards found);
+        once = sent_once out sent place (begun_journal setup place own.0) before after (was.each place own.0 before own.1 there) acts.holds was.once;
+      }
+  once_moved out sent old new was (Each same count acts none) =
+      let each : (index : ℕ) (rack : RackState) (shard : ShardState) → slice_get racks index ≡ Some rack → slice_get new.shards index ≡ Some shard
+      → IsTracked setup index (begun_journal setup index rack) out shard =
+      λ index rack shard rack_there there.
+      let before = shard_at out old was index rack rack_there in
+      let act = acts index before.0 shard before.1 there in
+      subst (λ (o : List (ℕ × List ℕ)). IsTracked setup index (begun_journal setup index rack) o shard) (append-nil out)
+      (tracked_on setup index (begun_journal setup index rack) out [] before.0 shard (was.each index rack before.0 rack_there before.1) act.goes act.holds) in
+      subst (λ (o : List (ℕ × List ℕ)). IsOnce setup racks o new) (sym (none_more out sent none)) (record {
+        setup_is = same ∙ was.setup_is;
+        count = count ∙ was.count;
+        each = each;
+        once = was.once;
+      })
 
--- a report that is owed hands on no pair twice
+handed-append : (lines others : List Line) → handed (lines ++ others) ≡ handed lines ++ handed others
+handed-append lines others = flat_map-append handed_by lines others
 
-once_in_report : (setup : Option Setup) (events : List (ℕ × Event)) (report : List ReportLine) → IsReportOf setup events report → NoneTwice (handed report)
-once_in_report None events report (none, empty) = subst (λ (r : List ReportLine). NoneTwice (handed r)) (sym empty) tt
-once_in_report (Some setup) events report (end, run) = at_most_once setup events report end run
+-- ---- a run
 
-once_of_first : (program : Program) (report : List ReportLine) → IsReportOfFirst program report → NoneTwice (handed report)
-once_of_first program report (count, first) = once_in_report program.setup (take count program.events.list) report first
+module _ (tells : Type 0) (t : tells) (suite : SuiteMeaning) (setup : NodeSetup) (racks : List RackState) where
+  -- act by act
+  runs_once : (acts : List Act) (old new : NodeState) (out : List (ℕ × List ℕ)) (said : List Line) → IsOnce setup racks out old → Runs tells suite old acts said new
+      → IsOnce setup racks (out ++ handed said) new
+  runs_once [] old new out said was (none, same) =
+      subst (λ (lines : List Line). IsOnce setup racks (out ++ handed lines) new) (sym none)
+      (subst (λ (o : List (ℕ × List ℕ)). IsOnce setup racks o new) (sym (append-nil out)) (subst (IsOnce setup racks out) (sym same) was))
+  runs_once (act ∷ acts) old new out said was (between, lines, others, does, runs, joined) =
+      let moved = once_moved setup racks out (handed lines) old between was (moves_sent tells t suite setup act lines old between was.setup_is does) in
+      subst (λ (o : List (ℕ × List ℕ)). IsOnce setup racks o new)
+      (append_assoc out (handed lines) (handed others) ∙ ap (λ (pairs : List (ℕ × List ℕ)). out ++ pairs) (sym (ap handed joined ∙ handed-append lines others)))
+      (runs_once acts between new (out ++ handed lines) others moved runs)
 
-pub once_owed : (program : Program) (status : Status) (report : List ReportLine) → Owes program status report → NoneTwice (handed report)
-once_owed program Done report owed = once_in_report program.setup program.events.list report owed.1
-once_owed program (Line number) report owed = once_in_report program.setup program.events.list report owed.1
-once_owed program (Later number) report owed = once_in_report program.setup program.events.list report owed.1
-once_owed program ReadFault report owed = once_of_first program report owed
-once_owed program WriteFault report owed = once_of_first program report owed
-once_owed program Memory report owed = once_of_first program report owed
-once_owed program Words report owed = absurd owed
+  module _ (start : NodeState) (is_new : IsNewNode setup racks start) (rest : All (λ rack. AreAtRest rack.areas) racks) where
+    at_end : (acts : List Act) (said : List Line) (state : NodeState) → Runs tells suite start acts said state → IsOnce setup racks (handed said) state
+    at_end acts said state runs = runs_once acts start state [] said (begins_once setup racks start is_new rest) runs
+
+    covered_at : (said : List Line) (state : NodeState) → IsOnce setup racks (handed said) state → (index : ℕ) (shard : ShardState) → slice_get state.shards index ≡ Some shard
+        → (pair : ℕ × List ℕ) → Contains (handed said) pair → place_of setup pair.1 ≡ index → AllCover shard.state.journal pair
+    covered_at said state is index shard there pair sent place =
+        let rack = rack_at setup racks (handed said) state is index shard there in
+        (is.each index rack.0 shard rack.1 there).covered pair (inr (sent, place))
+
+    -- a run hands on no pair twice
+    pub run_once : (acts : List Act) (said : List Line) (state : NodeState) → Runs tells suite start acts said state → NoneTwice (handed said)
+    run_once acts said state runs = (at_end acts said state runs).once
+
+    -- and none that its shard's disk held
+    pub run_fresh : (acts : List Act) (said : List Line) (state : NodeState) → Runs tells suite start acts said state
+        → All (λ pair. ¬ WasHeld setup racks pair) (handed said)
+    run_fresh acts said state runs =
+        let is = at_end acts said state runs in
+        all_within (λ (pair : ℕ × List ℕ). ¬ WasHeld setup racks pair) (handed said) (λ pair sent held.
+        let index = place_of setup pair.1 in
+        let shard = shard_at setup racks (handed said) state is index held.0 held.1 in
+        (is.each index held.0 shard.0 held.1 shard.1).fresh pair (inr (sent, refl))
+        (All-cons (λ (book : Result StoredBook Objection). IsCovered book pair.0 pair.1) (book_in held.0.areas (shape_at setup index) setup.limit) [] held.2
+        (All-nil (λ (book : Result StoredBook Objection). IsCovered book pair.0 pair.1))))
+
+    -- what was handed on all books of its shard's journal cover
+    pub run_covered : (acts : List Act) (said : List Line) (state : NodeState) → Runs tells suite start acts said state → (index : ℕ) (shard : ShardState)
+        → slice_get state.shards index ≡ Some shard → (pair : ℕ × List ℕ) → Contains (handed said) pair → place_of setup pair.1 ≡ index → AllCover shard.state.journal pair
+    run_covered acts said state runs = covered_at said state (at_end acts said state runs)
+
+    -- also where an act ended the run
+    pub ended_covered : (acts : List Act) (said : List Line) (state : NodeState) → Runs tells suite start acts said state → (act : Act) (status : Status) (end : NodeState)
+        → Ends tells suite act status state end → (index : ℕ) (shard : ShardState) → slice_get end.shards index ≡ Some shard → (pair : ℕ × List ℕ) → Contains (handed said) pair
+        → place_of setup pair.1 ≡ index → AllCover shard.state.journal pair
+    ended_covered acts said state runs act status end ends =
+        let is = at_end acts said state runs in
+        let moved = once_moved setup racks (handed said) [] state end is (moves_last tells t suite setup act status state end is.setup_is ends) in
+        covered_at said end (subst (λ (o : List (ℕ × List ℕ)). IsOnce setup racks o end) (append-nil (handed said)) moved)
+
+-- ---- the node's disks among others
+
+-- the disk of a pair's shard is one of the node's
+pub was_held_front : (setup : NodeSetup) (old : List RackState) (pair : ℕ × List ℕ) → 1 ≤ setup.shards → WasHeld setup old pair → WasHeld setup (take setup.shards old) pair
+was_held_front setup old pair some (rack, there, covered) =
+    (rack, at_front old setup.shards (place_of setup pair.1) rack (mod-lt _ some) there, covered)

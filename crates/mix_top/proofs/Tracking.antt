@@ -1,199 +1,262 @@
--- How progress begins, goes on with each event, and comes to an end.
-use Rattle.std.proofs.Common.{◌≡◌, ℕ, ◌+◌, List, [], ◌∷◌, ◌++◌, length, take, inl, inr, refl, ap, ◌∙◌, sym, subst, append_assoc, Option, Some, None, IsSome, IfSome, arith, rules}
-use Rattle.std.proofs.Math.Seq.{take-append-add, take-append_seam, take-length}
-use Rattle.std.proofs.lemmas.List.{take_at, append-nil}
+-- How far the events of a script have been answered: at first, by each event, and where the run ends.
+use Rattle.std.proofs.Common.{◌≡◌, ℕ, zero, suc, List, [], ◌∷◌, ◌++◌, inl, inr, refl, ap, ◌∙◌, sym, subst, append_assoc, Option, Some, None, IsSome, IfSome, IsSomeAnd, arith, rules}
+use Rattle.std.proofs.lemmas.List.{append-nil}
 use Rattle.std.proofs.lemmas.Grind.{flat_map-append}
-use Rattle.mix_base.specs.declared.writing.PutFault.{PutFault}
-use Rattle.mix_base.specs.declared.writing.PutFault.TheVariants as puts
-use Rattle.lab_text.specs.Given.{Gave}
+use Rattle.mix_base.specs.Suites.{SuiteMeaning}
 use Rattle.mix_base.specs.declared.reading.Source.{Ghosts}
 use Rattle.lab_text.specs.Readers.{ReachesEnd, SourceGoesOn, source_of}
-use Rattle.lab_text.specs.declared.lines.LineReader.{LineReader}
-use Rattle.lab_text.specs.Statuses.{put_status}
-use Rattle.lab_text.specs.declared.statuses.Status.{Status}
-use Rattle.lab_text.specs.declared.statuses.Status.TheVariants.{Done, Words, Line, ReadFault, WriteFault, Memory, Later}
-use Rattle.lab_text.specs.Script.{Events, Ending, AtEnd, Outside, NotBuilt, ends, in_front}
+use Rattle.lab_text.specs.Script.{Ending, AtEnd, Outside, Events, ends, in_front}
 use Rattle.lab_text.specs.declared.events.Event.{Event}
-use Rattle.epoch_keys.specs.Epochs.{InRange}
-use Rattle.mix_top.proofs.Giving.{gave_nothing, gave_then, gave_weaker}
-use Rattle.mix_top.proofs.HonestLines.{Runs-push, honest_owed}
-use Rattle.mix_top.proofs.Once.{once_owed}
-use Rattle.mix_top.specs.Node.{NodeState, new_node}
-use Rattle.mix_top.specs.Program.{Program, set_up}
-use Rattle.mix_top.specs.Progress.{Progress, Tracks, AnswersEvents, EndsAs, IsMet, IsCut, IsNext}
-use Rattle.mix_top.specs.Promise.{Answers, IsGiven, IsReportOfFirst, Owes}
-use Rattle.mix_top.specs.Report.{text, line_text}
-use Rattle.mix_top.specs.Run.{Runs}
-use Rattle.mix_top.specs.Step.{Step}
-use Rattle.mix_top.specs.declared.items.Setup.{Setup}
-use Rattle.mix_top.specs.declared.report.ReportLine.{ReportLine}
+use Rattle.lab_text.specs.declared.lines.LineReader.{LineReader}
+use Rattle.lab_text.specs.declared.statuses.Status.{Status}
+use Rattle.lab_text.specs.declared.statuses.Status.TheVariants.{Done, Words, Line, ReadFault, WriteFault, Foreign, OtherShape, Memory, NoKey, Later}
+use Rattle.node_core.specs.Nodes.{NodeState}
+use Rattle.node_core.specs.declared.setup.NodeSetup.{NodeSetup}
+use Rattle.mix_top.specs.Acts.{Act, Opens, acts_of, acts_of_all, first_acts, of_each}
+use Rattle.mix_top.specs.declared.serving.Round.TheVariants as rounds
+use Rattle.mix_top.specs.Headline.{IsGiven}
+use Rattle.mix_top.specs.Progress.{Answers, Breaks, EndsAs, EndsEvents, Follows, Goes, IsNext, Progress, Stops, act_at}
+use Rattle.mix_top.specs.Report as report
+use Rattle.mix_top.specs.Report.{text}
+use Rattle.mix_top.specs.Run.{Owes}
+use Rattle.mix_top.proofs.Giving.{gave_weaker, whole_text}
+use Rattle.mix_top.proofs.ServedActs.{breaks_then, ends_more, goes_then}
 
-text-append : (report lines : List ReportLine) → text (report ++ lines) ≡ text report ++ text lines
-text-append report lines = flat_map-append line_text report lines
+-- ---- the first round, and events and those behind them
 
--- nothing was answered yet
-progress_begins : (setup : Setup) (whole : Events) (given : Option (List ℕ)) → Progress setup whole whole new_node given given
-progress_begins setup whole given = record { done = []; report = []; list = refl; ending = refl; run = (refl, refl); given = gave_nothing given }
+open_acts : (first count : ℕ) → of_each (act_at rounds.Open) first count ≡ of_each Opens first count
+open_acts first zero = refl
+open_acts first (suc count) = ap (λ (acts : List Act). Opens first ∷ acts) (open_acts (suc first) count)
 
--- one event was answered
-progress_goes_on : (setup : Setup) (whole rest more : Events) (node new : NodeState) (event : ℕ × Event) (before after last : Option (List ℕ))
-    → Progress setup whole rest node before after → rest ≡ in_front event more → IsMet setup node event.1 new after last → Progress setup whole more new before last
-progress_goes_on setup whole rest more node new event before after last so_far next (lines, step, given) = record {
-  done = so_far.done ++ event ∷ [];
-  report = so_far.report ++ lines;
-  list = so_far.list ∙ ap (λ (r : Events). so_far.done ++ r.list) next ∙ sym (append_assoc so_far.done (event ∷ []) more.list);
-  ending = so_far.ending ∙ ap (λ (r : Events). r.ending) next;
-  run = Runs-push setup so_far.done new_node so_far.report node event lines new so_far.run step;
-  given = gave_then before after last (λ bytes. bytes ≡ text so_far.report) (λ bytes. bytes ≡ text lines) (λ bytes. bytes ≡ text (so_far.report ++ lines))
-      so_far.given given
-      (λ a b first second. ap (λ (bytes : List ℕ). bytes ++ b) first ∙ ap (λ (bytes : List ℕ). text so_far.report ++ bytes) second ∙ sym (text-append so_far.report lines));
+pub first_round : (setup : NodeSetup) (start : NodeState) → start.setup ≡ setup → of_each (act_at rounds.Open) 0 setup.shards ≡ first_acts start.setup.shards
+first_round setup start same = open_acts 0 setup.shards ∙ ap (λ (s : NodeSetup). first_acts s.shards) (sym same)
+
+-- the next of the events to come goes behind those that were done
+pub follows_next : (whole rest more : Events) (done : List (ℕ × Event)) (event : ℕ × Event) → Follows whole rest done → rest ≡ in_front event more
+    → Follows whole more (done ++ event ∷ [])
+follows_next whole rest more done event follows next = record {
+  list = follows.list ∙ ap (λ (events : Events). done ++ events.list) next ∙ sym (append_assoc done (event ∷ []) more.list);
+  ending = follows.ending ∙ ap (λ (events : Events). events.ending) next;
 }
 
--- a report that is owed and was given is an answer: it hands nothing on twice, and hands on honestly
-answered : (setup : Setup) (whole : Events) (status : Status) (report : List ReportLine) (before after : Option (List ℕ)) → InRange setup.times
-    → Owes (set_up setup whole) status report → Gave before after (λ bytes. IsGiven status report bytes) → Answers (set_up setup whole) status before after
-answered setup whole status report before after range owed given = record {
-  report = report;
-  owed = owed;
-  given = given;
-  once = once_owed (set_up setup whole) status report owed;
-  honest = honest_owed setup whole status report range owed;
-}
+module _ (shards : ℕ) where
+  acts_behind : (first : List Act) (done others : List (ℕ × Event)) → first ++ acts_of_all shards (done ++ others) ≡ (first ++ acts_of_all shards done) ++ acts_of_all shards others
+  acts_behind first done others =
+      ap (λ (acts : List Act). first ++ acts) (flat_map-append (λ (event : ℕ × Event). acts_of shards event.1) done others)
+      ∙ sym (append_assoc first (acts_of_all shards done) (acts_of_all shards others))
 
--- the report of the events before the rest is the report of the first events
-first_events : (setup : Setup) (whole rest : Events) (node : NodeState) (before after : Option (List ℕ)) (so_far : Progress setup whole rest node before after)
-    → IsReportOfFirst (set_up setup whole) so_far.report
-first_events setup whole rest node before after so_far =
-    let first : take (length so_far.done) whole.list ≡ so_far.done =
-    ap (take (length so_far.done)) so_far.list ∙ take_at so_far.done rest.list (length so_far.done) refl in
-    (length so_far.done, (node, subst (λ (events : List (ℕ × Event)). Runs setup new_node events so_far.report node) (sym first) so_far.run))
+  -- those of one event behind others, and before others
+  acts_pushed : (first : List Act) (done : List (ℕ × Event)) (event : ℕ × Event)
+      → first ++ acts_of_all shards (done ++ event ∷ []) ≡ (first ++ acts_of_all shards done) ++ acts_of shards event.1
+  acts_pushed first done event =
+      acts_behind first done (event ∷ []) ∙ ap (λ (acts : List Act). (first ++ acts_of_all shards done) ++ acts) (append-nil (acts_of shards event.1))
 
--- the whole text of a report is a front of it
-whole_text : (report : List ReportLine) (bytes : List ℕ) → bytes ≡ text report → (count : ℕ) × (bytes ≡ take count (text report))
-whole_text report bytes same = (length (text report), same ∙ sym (take-length (text report)))
+  acts_between : (first : List Act) (done : List (ℕ × Event)) (event : ℕ × Event) (others : List (ℕ × Event))
+      → first ++ acts_of_all shards (done ++ event ∷ others) ≡ ((first ++ acts_of_all shards done) ++ acts_of shards event.1) ++ acts_of_all shards others
+  acts_between first done event others =
+      acts_behind first done (event ∷ others) ∙ sym (append_assoc (first ++ acts_of_all shards done) (acts_of shards event.1) (acts_of_all shards others))
 
--- the events before the rest are all where the rest has none
-all_done : (setup : Setup) (whole rest : Events) (node : NodeState) (before after : Option (List ℕ)) (so_far : Progress setup whole rest node before after) (ending : Ending)
-    → rest ≡ ends ending → (whole.ending ≡ ending) × Runs setup new_node whole.list so_far.report node
-all_done setup whole rest node before after so_far ending none = (
-  so_far.ending ∙ ap (λ (r : Events). r.ending) none,
-  subst (λ (events : List (ℕ × Event)). Runs setup new_node events so_far.report node)
-      (sym (so_far.list ∙ ap (λ (r : Events). so_far.done ++ r.list) none ∙ append-nil so_far.done)) so_far.run,
-)
+-- ---- what a status says
 
--- what a status says where no further event was read
-owed_at_stop : (setup : Setup) (whole rest : Events) (node : NodeState) (before after : Option (List ℕ)) (status : Status) (so_far : Progress setup whole rest node before after)
-    → EndsAs ends rest status → Owes (set_up setup whole) status so_far.report × Gave before after (λ bytes. IsGiven status so_far.report bytes)
-owed_at_stop setup whole rest node before after Done so_far ended =
-    let all = all_done setup whole rest node before after so_far AtEnd ended in ((all.0, (node, all.1)), so_far.given)
-owed_at_stop setup whole rest node before after (Line number) so_far ended =
-    let all = all_done setup whole rest node before after so_far (Outside number) ended in ((all.0, (node, all.1)), so_far.given)
-owed_at_stop setup whole rest node before after (Later number) so_far ended =
-    let all = all_done setup whole rest node before after so_far (NotBuilt number) ended in ((all.0, (node, all.1)), so_far.given)
-owed_at_stop setup whole rest node before after ReadFault so_far ended = (first_events setup whole rest node before after so_far, so_far.given)
-owed_at_stop setup whole rest node before after Memory so_far ended = (
-  first_events setup whole rest node before after so_far,
-  gave_weaker before after (λ bytes. bytes ≡ text so_far.report) (λ bytes. (count : ℕ) × (bytes ≡ take count (text so_far.report))) so_far.given (whole_text so_far.report),
-)
-owed_at_stop setup whole rest node before after Words so_far ended = absurd ended
-owed_at_stop setup whole rest node before after WriteFault so_far ended = absurd ended
+-- where the acts of an event ended the run, it owes the same of the script, whatever acts follow
+owed_at_break : (tells : Type 0) (suite : SuiteMeaning) (ending : Ending) (status : Status) (rest others : List Act) (state end : NodeState)
+    → Stops tells suite status rest state end → Owes tells suite ending status (rest ++ others) state end
+owed_at_break tells suite ending WriteFault rest others state end stops = stops
+owed_at_break tells suite ending Memory rest others state end (inl same) = inl same
+owed_at_break tells suite ending Memory rest others state end (inr next) = inr (ends_more tells suite Memory rest others state end next)
+owed_at_break tells suite ending (Foreign node shard area at) rest others state end stops = ends_more tells suite (Foreign node shard area at) rest others state end stops
+owed_at_break tells suite ending (OtherShape node shard stored asked) rest others state end stops = ends_more tells suite (OtherShape node shard stored asked) rest others state end stops
+owed_at_break tells suite ending (NoKey epoch) rest others state end stops = ends_more tells suite (NoKey epoch) rest others state end stops
+owed_at_break tells suite ending Done rest others state end stops = absurd stops
+owed_at_break tells suite ending Words rest others state end stops = absurd stops
+owed_at_break tells suite ending (Line number) rest others state end stops = absurd stops
+owed_at_break tells suite ending ReadFault rest others state end stops = absurd stops
+owed_at_break tells suite ending (Later number) rest others state end stops = absurd stops
 
--- no further event was read
-finishes : (setup : Setup) (whole rest : Events) (node : NodeState) (before after : Option (List ℕ)) (status : Status) → InRange setup.times
-    → Progress setup whole rest node before after → EndsAs ends rest status → Answers (set_up setup whole) status before after
-finishes setup whole rest node before after status range so_far ended =
-    let owed = owed_at_stop setup whole rest node before after status so_far ended in
-    answered setup whole status so_far.report before after range owed.0 owed.1
+-- where no further event was read
+owed_at_stop : (tells : Type 0) (suite : SuiteMeaning) (shards : ℕ) (status : Status) (rest : Events) (state : NodeState) → EndsEvents status → EndsAs ends rest status
+    → Owes tells suite rest.ending status (acts_of_all shards rest.list) state state
+owed_at_stop tells suite shards Done rest state kind ended =
+    (ap (λ (events : Events). events.ending) ended, ap (λ (events : Events). acts_of_all shards events.list) ended, refl)
+owed_at_stop tells suite shards (Line number) rest state kind ended =
+    (ap (λ (events : Events). events.ending) ended, ap (λ (events : Events). acts_of_all shards events.list) ended, refl)
+owed_at_stop tells suite shards ReadFault rest state kind ended = refl
+owed_at_stop tells suite shards Memory rest state kind ended = inl refl
+owed_at_stop tells suite shards WriteFault rest state kind ended = absurd kind
+owed_at_stop tells suite shards (Foreign node shard area at) rest state kind ended = absurd kind
+owed_at_stop tells suite shards (OtherShape node shard stored asked) rest state kind ended = absurd kind
+owed_at_stop tells suite shards (NoKey epoch) rest state kind ended = absurd kind
+owed_at_stop tells suite shards Words rest state kind ended = absurd kind
+owed_at_stop tells suite shards (Later number) rest state kind ended = absurd kind
 
--- a list of events up to one of them
-up_to : (done : List (ℕ × Event)) (event : ℕ × Event) (others : List (ℕ × Event)) → take (length (done ++ event ∷ [])) (done ++ event ∷ others) ≡ done ++ event ∷ []
-up_to done event others =
-    ap (take (length (done ++ event ∷ []))) (sym (append_assoc done (event ∷ []) others)) ∙ take-append_seam (done ++ event ∷ []) others
+given_at_stop : (status : Status) (said : List report.Line) (bytes : List ℕ) → bytes ≡ text said → IsGiven status said bytes
+given_at_stop WriteFault said bytes same = whole_text said bytes same
+given_at_stop Memory said bytes same = whole_text said bytes same
+given_at_stop Done said bytes same = same
+given_at_stop Words said bytes same = same
+given_at_stop (Line number) said bytes same = same
+given_at_stop ReadFault said bytes same = same
+given_at_stop (Foreign node shard area at) said bytes same = same
+given_at_stop (OtherShape node shard stored asked) said bytes same = same
+given_at_stop (NoKey epoch) said bytes same = same
+given_at_stop (Later number) said bytes same = same
 
--- the report of the events up to one that was met
-met_events : (setup : Setup) (whole rest more : Events) (node : NodeState) (event : ℕ × Event) (before after : Option (List ℕ)) (lines : List ReportLine) (new : NodeState)
-    (so_far : Progress setup whole rest node before after) → rest ≡ in_front event more → Step setup node event.1 lines new
-    → IsReportOfFirst (set_up setup whole) (so_far.report ++ lines)
-met_events setup whole rest more node event before after lines new so_far next step =
-    let all : whole.list ≡ so_far.done ++ event ∷ more.list = so_far.list ∙ ap (λ (r : Events). so_far.done ++ r.list) next in
-    let first : take (length (so_far.done ++ event ∷ [])) whole.list ≡ so_far.done ++ event ∷ [] =
-    ap (take (length (so_far.done ++ event ∷ []))) all ∙ up_to so_far.done event more.list in (
-      length (so_far.done ++ event ∷ []),
-      (
-        new,
-        subst (λ (events : List (ℕ × Event)). Runs setup new_node events (so_far.report ++ lines) new) (sym first)
-            (Runs-push setup so_far.done new_node so_far.report node event lines new so_far.run step),
-      ),
-    )
+-- how a script ends that a source doesn't tell, by the status
+abbrev ending_for : Status → Ending
+ending_for (Line number) = Outside number
+ending_for Done = AtEnd
+ending_for Words = AtEnd
+ending_for ReadFault = AtEnd
+ending_for WriteFault = AtEnd
+ending_for (Foreign node shard area at) = AtEnd
+ending_for (OtherShape node shard stored asked) = AtEnd
+ending_for Memory = AtEnd
+ending_for (NoKey epoch) = AtEnd
+ending_for (Later number) = AtEnd
 
--- a front of a text behind a whole one is a front of both
-joined_front : (report lines : List ReportLine) (a b : List ℕ) → a ≡ text report → (count : ℕ) × (b ≡ take count (text lines))
-    → (count : ℕ) × (a ++ b ≡ take count (text (report ++ lines)))
-joined_front report lines a b whole (count, front) = (
-  length (text report) + count,
-  ap (λ (bytes : List ℕ). bytes ++ b) whole ∙ ap (λ (bytes : List ℕ). text report ++ bytes) front ∙ sym (take-append-add (text report) (text lines) count)
-      ∙ ap (take (length (text report) + count)) (sym (text-append report lines)),
-)
+ends_so : (status : Status) → EndsEvents status → EndsAs ends (ends (ending_for status)) status
+ends_so Done kind = refl
+ends_so (Line number) kind = refl
+ends_so ReadFault kind = tt
+ends_so Memory kind = tt
+ends_so WriteFault kind = absurd kind
+ends_so (Foreign node shard area at) kind = absurd kind
+ends_so (OtherShape node shard stored asked) kind = absurd kind
+ends_so (NoKey epoch) kind = absurd kind
+ends_so Words kind = absurd kind
+ends_so (Later number) kind = absurd kind
 
--- the next event was left out or cut short: its fault's status asks for a front of the first events' report
-owed_at_fault : (program : Program) (fault : PutFault) (report : List ReportLine) → IsReportOfFirst program report → Owes program (put_status fault) report
-owed_at_fault program puts.WriteFault report first = first
-owed_at_fault program puts.Memory report first = first
+-- ---- progress
 
-given_at_fault : (fault : PutFault) (report : List ReportLine) (bytes : List ℕ) → (count : ℕ) × (bytes ≡ take count (text report)) → IsGiven (put_status fault) report bytes
-given_at_fault puts.WriteFault report bytes front = front
-given_at_fault puts.Memory report bytes front = front
+module _ (tells : Type 0) (suite : SuiteMeaning) (start : NodeState) where
+  abbrev acts_for : List (ℕ × Event) → List Act
+  acts_for done = first_acts start.setup.shards ++ acts_of_all start.setup.shards done
 
-finishes_cut : (setup : Setup) (whole rest more : Events) (node : NodeState) (event : ℕ × Event) (fault : PutFault) (before after last : Option (List ℕ)) → InRange setup.times
-    → Progress setup whole rest node before after → rest ≡ in_front event more → IsCut setup node event.1 after last
-    → Answers (set_up setup whole) (put_status fault) before last
-finishes_cut setup whole rest more node event fault before after last range so_far next (inl same) =
-    answered setup whole (put_status fault) so_far.report before last range
-    (owed_at_fault (set_up setup whole) fault so_far.report (first_events setup whole rest node before after so_far))
-    (subst (λ (o : Option (List ℕ)). Gave before o (λ bytes. IsGiven (put_status fault) so_far.report bytes)) (sym same)
-    (gave_weaker before after (λ bytes. bytes ≡ text so_far.report) (λ bytes. IsGiven (put_status fault) so_far.report bytes) so_far.given
-    (λ bytes whole_of. given_at_fault fault so_far.report bytes (whole_text so_far.report bytes whole_of))))
-finishes_cut setup whole rest more node event fault before after last range so_far next (inr (lines, new, step, front)) =
-    answered setup whole (put_status fault) (so_far.report ++ lines) before last range
-    (owed_at_fault (set_up setup whole) fault (so_far.report ++ lines) (met_events setup whole rest more node event before after lines new so_far next step))
-    (gave_then before after last (λ bytes. bytes ≡ text so_far.report) (λ bytes. (count : ℕ) × (bytes ≡ take count (text lines)))
-    (λ bytes. IsGiven (put_status fault) (so_far.report ++ lines) bytes) so_far.given front
-    (λ a b first second. given_at_fault fault (so_far.report ++ lines) (a ++ b) (joined_front so_far.report lines a b first second)))
+  -- the journals were opened
+  pub progress_begins : (whole : Option Events) (node : NodeState) (before after : Option (List ℕ)) → Goes tells suite (first_acts start.setup.shards) start node before after
+      → Progress tells suite whole whole start node before after
+  progress_begins whole node before after goes = record {
+    done = [];
+    follows = all_to_come whole;
+    goes = subst (λ (acts : List Act). Goes tells suite acts start node before after) (sym (append-nil (first_acts start.setup.shards))) goes;
+  }
+    where
+      all_to_come : (whole : Option Events) → IfSome whole (λ all. IsSomeAnd whole (λ more. Follows all more []))
+      all_to_come None = tt
+      all_to_come (Some all) = record { list = refl; ending = refl }
 
--- the same, where the source tells the events to come
+  -- an event was answered
+  pub progress_goes_on : (whole rest more : Option Events) (node new : NodeState) (event : ℕ × Event) (before after last : Option (List ℕ))
+      → Progress tells suite whole rest start node before after → IsNext event rest more
+      → Goes tells suite (acts_of start.setup.shards event.1) node new after last → Progress tells suite whole more start new before last
+  progress_goes_on whole rest more node new event before after last so_far next goes = record {
+    done = so_far.done ++ event ∷ [];
+    follows = pushed whole rest more so_far.follows next;
+    goes = subst (λ (acts : List Act). Goes tells suite acts start new before last)
+        (sym (acts_pushed start.setup.shards (first_acts start.setup.shards) so_far.done event))
+        (goes_then tells suite (acts_for so_far.done) (acts_of start.setup.shards event.1) start node new before after last so_far.goes goes);
+  }
+    where
+      pushed : (whole rest more : Option Events) → IfSome whole (λ all. IsSomeAnd rest (λ others. Follows all others so_far.done)) → IsNext event rest more
+          → IfSome whole (λ all. IsSomeAnd more (λ others. Follows all others (so_far.done ++ event ∷ [])))
+      pushed None rest more follows next = tt
+      pushed (Some all) None more follows next = absurd follows
+      pushed (Some all) (Some others) None follows next = absurd next
+      pushed (Some all) (Some others) (Some fewer) follows next = follows_next all others fewer so_far.done event follows next
 
-pub tracks_begin : (setup : Setup) (events : Option Events) (given : Option (List ℕ)) → Tracks setup events events new_node given given
-tracks_begin setup None given = tt
-tracks_begin setup (Some whole) given = progress_begins setup whole given
+  -- no further event was read
+  stopped : (whole : Events) (told : Option Events) (rest : Events) (done : List (ℕ × Event)) (node : NodeState) (before after : Option (List ℕ)) (status : Status)
+      → IfSome told (λ all. whole ≡ all) → Follows whole rest done → Goes tells suite (acts_for done) start node before after → EndsEvents status → EndsAs ends rest status
+      → Answers tells suite told status start node before after
+  stopped whole told rest done node before after status is follows goes kind ended = record {
+    whole = whole;
+    of_source = is;
+    done = acts_for done;
+    rest = acts_of_all start.setup.shards rest.list;
+    all = ap (λ (events : List (ℕ × Event)). acts_for events) follows.list ∙ acts_behind start.setup.shards (first_acts start.setup.shards) done rest.list;
+    said = goes.said;
+    state = node;
+    runs = goes.runs;
+    owed = subst (λ (e : Ending). Owes tells suite e status (acts_of_all start.setup.shards rest.list) node node) (sym follows.ending)
+        (owed_at_stop tells suite start.setup.shards status rest node kind ended);
+    given = gave_weaker before after (λ bytes. bytes ≡ text goes.said) (λ bytes. IsGiven status goes.said bytes) goes.given (given_at_stop status goes.said);
+  }
 
-pub tracks_go_on : (setup : Setup) (events rest more : Option Events) (node new : NodeState) (event : ℕ × Event) (before after last : Option (List ℕ))
-    → Tracks setup events rest node before after → IsNext event rest more → IsMet setup node event.1 new after last → Tracks setup events more new before last
-tracks_go_on setup None rest more node new event before after last so_far next met = tt
-tracks_go_on setup (Some whole) None more node new event before after last so_far next met = absurd so_far
-tracks_go_on setup (Some whole) (Some rest) None node new event before after last so_far next met = absurd next
-tracks_go_on setup (Some whole) (Some rest) (Some more) node new event before after last so_far next met =
-    progress_goes_on setup whole rest more node new event before after last so_far next met
+  pub answers_stop : (whole rest : Option Events) (node : NodeState) (before after : Option (List ℕ)) (status : Status)
+      → Progress tells suite whole rest start node before after → EndsEvents status → IfSome rest (λ events. EndsAs ends events status)
+      → Answers tells suite whole status start node before after
+  answers_stop whole rest node before after status so_far kind ended = by_told whole rest so_far.follows ended
+    where
+      by_told : (whole rest : Option Events) → IfSome whole (λ all. IsSomeAnd rest (λ others. Follows all others so_far.done)) → IfSome rest (λ events. EndsAs ends events status)
+          → Answers tells suite whole status start node before after
+      by_told None rest follows ended =
+          stopped (record { list = so_far.done; ending = ending_for status }) None (ends (ending_for status)) so_far.done node before after status tt
+          (record { list = sym (append-nil so_far.done); ending = refl }) so_far.goes kind (ends_so status kind)
+      by_told (Some all) None follows ended = absurd follows
+      by_told (Some all) (Some others) follows ended = stopped all (Some all) others so_far.done node before after status refl follows so_far.goes kind ended
 
-pub tracks_stop : (setup : Setup) (events rest : Option Events) (node : NodeState) (before after : Option (List ℕ)) (status : Status) → InRange setup.times
-    → Tracks setup events rest node before after → IfSome rest (λ now. EndsAs ends now status) → AnswersEvents setup events status before after
-tracks_stop setup None rest node before after status range so_far ended = tt
-tracks_stop setup (Some whole) None node before after status range so_far ended = absurd so_far
-tracks_stop setup (Some whole) (Some rest) node before after status range so_far ended = finishes setup whole rest node before after status range so_far ended
+  -- an event ended the run
+  broken : (whole : Events) (told : Option Events) (others : List Act) (acts : List Act) (node : NodeState) (before after : Option (List ℕ)) (status : Status)
+      → IfSome told (λ all. whole ≡ all) → acts_for whole.list ≡ acts ++ others → Breaks tells suite acts status start node before after
+      → Answers tells suite told status start node before after
+  broken whole told others acts node before after status is all breaks = record {
+    whole = whole;
+    of_source = is;
+    done = breaks.done;
+    rest = breaks.rest ++ others;
+    all = all ∙ ap (λ (list : List Act). list ++ others) breaks.all ∙ append_assoc breaks.done breaks.rest others;
+    said = breaks.said;
+    state = breaks.state;
+    runs = breaks.runs;
+    owed = owed_at_break tells suite whole.ending status breaks.rest others breaks.state node breaks.stops;
+    given = breaks.given;
+  }
 
-pub tracks_cut : (setup : Setup) (events rest more : Option Events) (node : NodeState) (event : ℕ × Event) (fault : PutFault) (before after last : Option (List ℕ)) → InRange setup.times
-    → Tracks setup events rest node before after → IsNext event rest more → IsCut setup node event.1 after last
-    → AnswersEvents setup events (put_status fault) before last
-tracks_cut setup None rest more node event fault before after last range so_far next cut = tt
-tracks_cut setup (Some whole) None more node event fault before after last range so_far next cut = absurd so_far
-tracks_cut setup (Some whole) (Some rest) None node event fault before after last range so_far next cut = absurd next
-tracks_cut setup (Some whole) (Some rest) (Some more) node event fault before after last range so_far next cut =
-    finishes_cut setup whole rest more node event fault before after last range so_far next cut
+  -- the first round did
+  pub answers_unopened : (whole : Option Events) (node : NodeState) (before after : Option (List ℕ)) (status : Status)
+      → Breaks tells suite (first_acts start.setup.shards) status start node before after → Answers tells suite whole status start node before after
+  answers_unopened None node before after status breaks =
+      broken (ends AtEnd) None [] (first_acts start.setup.shards) node before after status tt refl breaks
+  answers_unopened (Some all) node before after status breaks =
+      broken all (Some all) (acts_of_all start.setup.shards all.list) (first_acts start.setup.shards) node before after status refl refl breaks
+
+  pub answers_broken : (whole rest more : Option Events) (node new : NodeState) (event : ℕ × Event) (before after last : Option (List ℕ)) (status : Status)
+      → Progress tells suite whole rest start node before after → IsNext event rest more
+      → Breaks tells suite (acts_of start.setup.shards event.1) status node new after last → Answers tells suite whole status start new before last
+  answers_broken whole rest more node new event before after last status so_far next breaks = by_told whole rest more so_far.follows next
+    where
+      acts : List Act
+      acts = acts_for so_far.done ++ acts_of start.setup.shards event.1
+
+      both : Breaks tells suite acts status start new before last
+      both = breaks_then tells suite (acts_for so_far.done) (acts_of start.setup.shards event.1) status start node new before after last so_far.goes breaks
+
+      by_told : (whole rest more : Option Events) → IfSome whole (λ all. IsSomeAnd rest (λ others. Follows all others so_far.done)) → IsNext event rest more
+          → Answers tells suite whole status start new before last
+      by_told None rest more follows next =
+          broken (record { list = so_far.done ++ event ∷ []; ending = AtEnd }) None [] acts new before last status tt
+          (acts_pushed start.setup.shards (first_acts start.setup.shards) so_far.done event ∙ sym (append-nil acts)) both
+      by_told (Some all) None more follows next = absurd follows
+      by_told (Some all) (Some others) None follows next = absurd next
+      by_told (Some all) (Some others) (Some fewer) follows next =
+          broken all (Some all) (acts_of_all start.setup.shards fewer.list) acts new before last status refl
+          (ap (λ (events : List (ℕ × Event)). acts_for events) (follows.list ∙ ap (λ (e : Events). so_far.done ++ e.list) next)
+          ∙ acts_between start.setup.shards (first_acts start.setup.shards) so_far.done event fewer.list) both
+
+-- ---- the source
 
 -- a source that told goes on telling
 tells_on : (first now next : Option (List ℕ)) → IfSome first (λ _. IsSome now) → IfSome now (λ _. IsSome next) → IfSome first (λ _. IsSome next)
 tells_on None now next told tells = tt
 tells_on (Some bytes) (Some left) next told tells = tells
 tells_on (Some bytes) None next told tells = absurd (search rules)
+
+told_still : (left : Option (List ℕ)) → IfSome left (λ _. IsSome left)
+told_still None = tt
+told_still (Some bytes) = search rules
+
+pub source_stays : {I : Type 0} {G : Ghosts I} (reader : LineReader I G) → SourceGoesOn reader reader
+source_stays {G = G} reader = record { tells = told_still (G.left (source_of reader)); faults = omega arith; same_reference = refl }
 
 -- it is at its end
 pub reaches_end : (first now next : Option (List ℕ)) → IfSome first (λ _. IsSome now) → ReachesEnd now next → ReachesEnd first next

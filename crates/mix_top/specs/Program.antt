@@ -1,76 +1,54 @@
--- A script as what it asks for: how the node is set up, its events, and how it ends.
-use Rattle.std.specs.Prelude.{ℕ, ◌+◌, Bool, true, false, ◌==◌, ◌&&◌, not, if◌then◌else◌, List, [], ◌∷◌, Option, Some, None}
+-- A script as what it asks for: how the node is set up, its acts, and how it ends.
+use Rattle.std.specs.Prelude.{ℕ, ◌+◌, ◌^◌, if◌then◌else◌, List, [], ◌∷◌, ◌++◌, Option, Some, None}
 use Rattle.prim_std.specs.Laboratory.{lab_scheme}
 use Rattle.epoch_keys.specs.Epochs.{EpochTimes}
 use Rattle.lab_text.specs.Lines.{ScriptLine, Text, TooLong, lines_from}
 use Rattle.lab_text.specs.NodeLines.{node_of, sizes_of}
-use Rattle.lab_text.specs.Script.{Ending, Outside, NotBuilt, Events, ends, events_from, in_front}
+use Rattle.lab_text.specs.Script.{Ending, Outside, NotBuilt, Events, events_from}
 use Rattle.lab_text.specs.Sizes.{geometry_of}
 use Rattle.lab_text.specs.Words.{words_of}
 use Rattle.lab_text.specs.WordForms.{says_nothing}
-use Rattle.lab_text.specs.declared.events.Event.{Event}
-use Rattle.lab_text.specs.declared.events.Event.TheVariants.{Recv, Peel, Claim, Send, Rotate, Arm, Crash, Skip}
 use Rattle.lab_text.specs.declared.node_lines.NodeLine.{NodeLine}
-use Rattle.mix_top.specs.declared.items.Setup.{Setup}
+use Rattle.node_core.specs.declared.setup.NodeSetup.{NodeSetup}
+use Rattle.mix_top.specs.Acts.{Act, acts_of_all, first_acts}
 
--- an event that isn't built yet
-abbrev pub is_not_built : Event → Bool
-is_not_built (Rotate moment) = true
-is_not_built (Arm shard calls) = true
-is_not_built (Crash pick) = true
-is_not_built (Recv moment packet) = false
-is_not_built (Peel worker) = false
-is_not_built (Claim worker) = false
-is_not_built (Send moment) = false
-is_not_built Skip = false
-
--- of events that end so, those before the first that isn't built yet; where there is such a one, they end at its line
-abbrev pub built_of : Ending → List (ℕ × Event) → Events
-built_of ending [] = ends ending
-built_of ending (event ∷ events) =
-    if is_not_built event.1 then ends (NotBuilt event.0) else in_front event (built_of ending events)
-
--- the events of lines, the first of which has this number, in a node of so many shards: up to the first line that is
--- outside the grammar or isn't built yet
-abbrev pub built_from : ℕ → ℕ → List ScriptLine → Events
-built_from shards number lines =
-    let events = events_from shards number lines in built_of events.ending events.list
-
--- a node that is built: of the laboratory suite, with one shard
-abbrev pub is_built : NodeLine → Bool
-is_built node = not node.ntru && node.shards == 1
-
--- its epochs
+-- a node's epochs, by its line
 abbrev pub times_of : NodeLine → EpochTimes
 times_of node = record { epoch = node.epoch; grace = node.grace }
 
--- how it is set up
-abbrev pub setup_of : NodeLine → Setup
+-- how it is set up; a log of its journals has 2 ^ 26 records at most
+abbrev pub setup_of : NodeLine → NodeSetup
 setup_of node = record {
-  geometry = geometry_of lab_scheme.ciphertext (sizes_of node);
+  geo = geometry_of lab_scheme.ciphertext (sizes_of node);
+  shards = node.shards;
   times = times_of node;
   seed = node.seed;
+  limit = 2 ^ 26;
 }
 
 -- a whole script
 pub record Program : Type 0 where
-  pub setup : Option Setup
-  pub events : Events
+  pub setup : Option NodeSetup
+  pub acts : List Act
+  pub ending : Ending
 
 -- a script that ends before its node is set up
 abbrev pub no_node : Ending → Program
-no_node ending = record { setup = None; events = ends ending }
+no_node ending = record { setup = None; acts = []; ending = ending }
 
--- a script whose node is set up, and its events
-abbrev pub set_up : Setup → Events → Program
-set_up setup events = record { setup = Some setup; events = events }
+-- a script whose node is set up, and what comes behind its line
+abbrev pub set_up : NodeSetup → Events → Program
+set_up setup events = record {
+  setup = Some setup;
+  acts = first_acts setup.shards ++ acts_of_all setup.shards events.list;
+  ending = events.ending;
+}
 
--- a script with this node line, and the lines behind it
+-- a script with this node line, of this number, and the lines behind it; the suite `ntru` isn't built yet
 abbrev pub with_node : ℕ → Option NodeLine → List ScriptLine → Program
 with_node number None lines = no_node (Outside number)
 with_node number (Some node) lines =
-    if is_built node then set_up (setup_of node) (built_from node.shards (number + 1) lines)
-    else no_node (NotBuilt number)
+    if node.ntru then no_node (NotBuilt number) else set_up (setup_of node) (events_from node.shards (number + 1) lines)
 
 -- the script of lines, the first of which has this number: the first line that isn't skipped is the node line
 abbrev pub program_from : ℕ → List ScriptLine → Program

@@ -1,15 +1,20 @@
--- The report's lines as text, and which packets they hand on.
-use Rattle.std.specs.Prelude.{⊤, ℕ, List, [], ◌∷◌, codes, flat_map, Contains, Option, Some, None}
+-- The report's lines: their text, which packets they hand on, and which say that a disk failed.
+use Rattle.std.specs.Prelude.{ℕ, ◌==◌, Bool, false, List, [], ◌∷◌, codes, flat_map, count_by}
 use Rattle.std.specs.Fmt.{decimal}
-use Rattle.hex.specs.Hex.{encode_lower}
-use Rattle.sphinx_unwrap.specs.declared.outcome.Out.{Out}
-use Rattle.sphinx_unwrap.specs.declared.outcome.Out.TheVariants.{Forward, Deliver, Reply, Damaged}
 use Rattle.sphinx_unwrap.specs.declared.faults.Refused.{Refused}
 use Rattle.sphinx_unwrap.specs.declared.faults.Refused.TheVariants.{Length, Version, Sealed, Commands}
 use Rattle.lab_text.specs.WordForms.{line_of}
-use Rattle.mix_top.specs.declared.items.Item.{Item}
+use Rattle.mix_shard.specs.Items.{Item}
+use Rattle.node_core.specs.HandOn.{hand_on_line}
 use Rattle.mix_top.specs.declared.report.ReportLine.{ReportLine}
-use Rattle.mix_top.specs.declared.report.ReportLine.TheVariants.{Refuse, Idle, Busy, Retired, Spent, Empty, Handed, NoneDue}
+use Rattle.mix_top.specs.declared.report.ReportLine.TheVariants.{Refuse, Idle, Busy, Retired, Spent, Full, Failed, Empty, NoneDue, Unopened, Restarted, NotRotated, RootFull}
+
+-- a line that says something, or that hands a packet on
+pub data Line : Type 0 where
+  Says : ReportLine → Line
+  HandsOn : Item → Line
+
+-- ---- their text
 
 -- the word of a refusal
 abbrev pub why_of : Refused → List ℕ
@@ -18,54 +23,59 @@ why_of Version = codes "version"
 why_of Sealed = codes "sealed"
 why_of Commands = codes "commands"
 
--- a block as a word: a dash where there is none
-abbrev pub block_word : Option (List ℕ) → List ℕ
-block_word None = codes "-"
-block_word (Some block) = encode_lower block
-
--- what is handed on, its kind and the words behind the tag
-abbrev pub kind_of : Out → List ℕ
-kind_of (Forward next packet) = codes "forward"
-kind_of (Deliver recipient body block) = codes "deliver"
-kind_of (Reply recipient surb payload) = codes "reply"
-kind_of (Damaged recipient) = codes "damaged"
-
-abbrev pub words_behind_tag : Out → List (List ℕ)
-words_behind_tag (Forward next packet) = encode_lower next ∷ encode_lower packet ∷ []
-words_behind_tag (Deliver recipient body block) = encode_lower recipient ∷ encode_lower body ∷ block_word block ∷ []
-words_behind_tag (Reply recipient surb payload) = encode_lower recipient ∷ encode_lower surb ∷ encode_lower payload ∷ []
-words_behind_tag (Damaged recipient) = encode_lower recipient ∷ []
-
--- the line of a packet that is handed on
-abbrev pub handed_words : Item → List (List ℕ)
-handed_words item = kind_of item.out ∷ decimal item.number ∷ decimal item.epoch ∷ encode_lower item.tag ∷ words_behind_tag item.out
-
--- a line's words
+-- the words of a line; which shard a claim failed at isn't among them
 abbrev pub words_of_line : ReportLine → List (List ℕ)
 words_of_line (Refuse number why) = codes "refuse" ∷ decimal number ∷ why_of why ∷ []
 words_of_line (Idle worker) = codes "peel" ∷ decimal worker ∷ codes "idle" ∷ []
 words_of_line (Busy worker) = codes "peel" ∷ decimal worker ∷ codes "busy" ∷ []
 words_of_line (Retired number floor) = codes "refuse" ∷ decimal number ∷ codes "retired" ∷ decimal floor ∷ []
 words_of_line (Spent number) = codes "refuse" ∷ decimal number ∷ codes "spent" ∷ []
+words_of_line (Full number) = codes "refuse" ∷ decimal number ∷ codes "full" ∷ []
+words_of_line (Failed number shard) = codes "refuse" ∷ decimal number ∷ codes "disk" ∷ []
 words_of_line (Empty worker) = codes "claim" ∷ decimal worker ∷ codes "empty" ∷ []
-words_of_line (Handed item) = handed_words item
 words_of_line NoneDue = codes "none" ∷ []
+words_of_line (Unopened shard) = codes "open" ∷ decimal shard ∷ codes "disk" ∷ []
+words_of_line (Restarted shard floor spent) =
+    codes "restart" ∷ decimal shard ∷ codes "floor" ∷ decimal floor ∷ codes "spent" ∷ decimal spent ∷ []
+words_of_line (NotRotated shard) = codes "rotate" ∷ decimal shard ∷ codes "disk" ∷ []
+words_of_line (RootFull shard) = codes "rotate" ∷ decimal shard ∷ codes "full" ∷ []
 
 -- the text of one line
-abbrev pub line_text : ReportLine → List ℕ
-line_text line = line_of (words_of_line line)
+abbrev pub line_text : Line → List ℕ
+line_text (Says line) = line_of (words_of_line line)
+line_text (HandsOn item) = hand_on_line item
 
 -- the text of a report
-abbrev pub text : List ReportLine → List ℕ
+abbrev pub text : List Line → List ℕ
 text lines = flat_map line_text lines
 
--- the pairs of epoch and tag that a report hands on
-abbrev pub handed : List ReportLine → List (ℕ × List ℕ)
-handed [] = []
-handed (Handed item ∷ lines) = (item.epoch, item.tag) ∷ handed lines
-handed (line ∷ lines) = handed lines
+-- ---- what they hand on
 
--- no pair stands twice
-abbrev pub NoneTwice : List (ℕ × List ℕ) → Type 0
-NoneTwice [] = ⊤
-NoneTwice (pair ∷ pairs) = ¬ Contains pairs pair × NoneTwice pairs
+-- the pair of epoch and replay tag of a packet
+abbrev pub pair_of : Item → ℕ × List ℕ
+pair_of item = (item.epoch, item.tag)
+
+abbrev pub handed_by : Line → List (ℕ × List ℕ)
+handed_by (Says line) = []
+handed_by (HandsOn item) = pair_of item ∷ []
+
+-- the pairs that a report hands on, in its order
+abbrev pub handed : List Line → List (ℕ × List ℕ)
+handed lines = flat_map handed_by lines
+
+-- ---- which say that a disk failed
+
+-- that of this shard
+abbrev pub says_failed : ℕ → ReportLine → Bool
+says_failed shard (Failed number other) = other == shard
+says_failed shard (Unopened other) = other == shard
+says_failed shard (NotRotated other) = other == shard
+says_failed shard _ = false
+
+abbrev pub is_disk_line : ℕ → Line → Bool
+is_disk_line shard (Says line) = says_failed shard line
+is_disk_line shard (HandsOn item) = false
+
+-- how many of a report say so
+abbrev pub disk_lines : ℕ → List Line → ℕ
+disk_lines shard lines = count_by (is_disk_line shard) lines

@@ -1,39 +1,51 @@
-// The program's commands over any source and sink. The command `drive` carries the headline: whatever the script,
-// its report hands on at most one packet for each epoch key and replay tag, and each is honest. The other commands are
-// the tools'.
-ghost use Rattle.std.specs.Prelude.{◌≡◌, ◌≢◌, ◌↔◌, ◌≤◌, None, false, true, map, string_bytes};
+// The program's commands over any source, sink and disks. The command `drive` carries the headline: whatever the script,
+// its report hands on at most one packet for each epoch key and replay tag, over all restarts, and each is honest. The
+// other commands are the tools'.
+ghost use Rattle.std.specs.Prelude.{◌≡◌, ◌≢◌, ◌↔◌, ◌≤◌, None, false, true, length, map, string_bytes};
 ghost use Rattle.mix_base.specs.Faults.{Rose};
 ghost use Rattle.lab_text.specs.Readers.{ReachesEnd};
-ghost use Rattle.mix_tools.specs.Answers.{AnswersCommand, EndsInput, ExplainsInput, IsReadBy, IsUnwritten};
+ghost use Rattle.mix_tools.specs.Answers.{AnswersCommand, EndsInput, EndsTool, ExplainsInput, IsReadBy, IsUnwritten};
 ghost use Rattle.mix_tools.specs.Commands.{command_of};
 ghost use Rattle.mix_top.specs.Commands.{OnDrive, OnTool, names_drive};
-ghost use Rattle.mix_top.specs.Promise.{AnswersScript};
+ghost use Rattle.mix_top.specs.Headline.{AnswersScript};
 
+use crate::bench::Bench;
 use crate::drive::drive;
 use lab_text::Status;
-use mix_base::{Sink, Source};
+use mix_base::{Sink, Source, Suite};
 use mix_tools::tool;
+use prim_std::LabSuite;
+use replay_disk::{CrashRack, Rack};
 use std::alloc::Global;
 
-/// Runs the command that the words name: `drive` reads a script from the source and writes its report to the sink, and
-/// the tools' commands are those of `tool`. `Words` comes exactly where the words are no form of a command, and then
-/// source and sink are as they were.
-pub fn mix_command<I: Source, O: Sink>(
+/// Runs the command that the words name: `drive` reads a script from the source, drives a node over the bench's laboratory
+/// disks, and writes its report to the sink; the tools' commands are those of `tool`. `Words` comes exactly where the words
+/// are no form of a command, and then source, sink and bench are as they were. Asks 16 laboratory disks and 32 kept ones,
+/// and leaves each in its place.
+pub fn mix_command<I: Source, O: Sink, C: CrashRack, K: Rack>(
     alloc: Global,
     words: &[String],
     source: &mut I,
     sink: &mut O,
+    bench: &mut Bench<C, K>,
 ) -> Status
+    requires lab { length bench.old.lab.items ≡ 16 }
+    requires kept { length bench.old.kept.items ≡ 32 }
     ensures forms { (result ≡ Status.Words) ↔
         ((names_drive (map string_bytes words.now) ≡ false) × (command_of (map string_bytes words.now) ≡ None)) }
     ensures untouched { result ≡ Status.Words → (source.new ≡ source.old) × (sink.new ≡ sink.old) }
 
-    // `drive`: where the source tells the script, the report is the one that is owed, and where the sink tells, its
-    // text was given.
-    ensures report { OnDrive (map string_bytes words.now)
-        (AnswersScript (I.left source.old) result (O.given sink.old) (O.given sink.new)) }
+    // `drive`: the headline, of the script that the source tells, the report that the sink tells, and the disks.
+    ensures headline { OnDrive (map string_bytes words.now)
+        (AnswersScript C.tells ⟦<LabSuite as Suite>⟧.meaning (I.left source.old) result
+        (O.given sink.old) (O.given sink.new) (map C.state bench.old.lab.items) (map C.state bench.new.lab.items)) }
     ensures end { OnDrive (map string_bytes words.now)
         (result ≡ Status.Done → ReachesEnd (I.left source.old) (I.left source.new)) }
+
+    // No other command changes a laboratory disk, none a kept one, and each stays in its place.
+    ensures bench { names_drive (map string_bytes words.now) ≡ false → bench.new ≡ bench.old }
+    ensures kept { bench.new.kept ≡ bench.old.kept }
+    ensures lab { length bench.new.lab.items ≡ 16 }
 
     // The tools: where they are told, just the text that is owed is given, and none before the input's end. Line and
     // Later have their cause whatever the sink tells.
@@ -41,6 +53,7 @@ pub fn mix_command<I: Source, O: Sink>(
         AnswersCommand command (I.left source.old) (O.given sink.old) (O.given sink.new) result) }
     ensures tool_cause { OnTool (map string_bytes words.now) (λ command.
         ExplainsInput command (I.left source.old) result) }
+    ensures tool_kind { OnTool (map string_bytes words.now) (λ command. EndsTool result) }
     ensures tool_unwritten { OnTool (map string_bytes words.now) (λ command.
         IsUnwritten result sink.old sink.new) }
     ensures tool_end { result ≡ Status.Done → OnTool (map string_bytes words.now) (λ command.
@@ -58,7 +71,7 @@ pub fn mix_command<I: Source, O: Sink>(
     ensures sink_faults { O.faults sink.old ≤ O.faults sink.new }
 {
     if is_drive(words) {
-        return drive(alloc, source, sink);
+        return drive(alloc, source, sink, &mut bench.lab);
     }
     match tool(alloc, words, source, sink) {
         Some(status) => status,

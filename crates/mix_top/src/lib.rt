@@ -1,16 +1,15 @@
-//! The program's top call over a source of bytes and a sink: a script is read, a node goes through its events,
-//! and the report is written. The promise stands in `specs/Promise.antt`, and is a clause of `mix_command`.
+//! The program's top call over a source of bytes, a sink and a bench of disks: a script is read, a node goes through its
+//! acts, and the report is written. The promise stands in `specs/Headline.antt`, and is a clause of `mix_command`.
 #![tactic(auto)]
 
-mod book;
+mod bench;
 mod command;
 mod drive;
-mod items;
-mod keys;
-mod moments;
-mod node;
+mod reading;
 mod report;
+mod serving;
 #[cfg(test)]
 mod tests;
 
+pub use bench::Bench;
 pub use command::mix_command;

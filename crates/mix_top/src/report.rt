@@ -1,38 +1,76 @@
-// The lines of the report, and their text.
-ghost use Rattle.std.specs.Prelude.{◌≡◌, [], ◌∷◌, IfOk, string_bytes};
-ghost use Rattle.hex.specs.Hex.{encode_lower};
+// The lines of the report, but for those that hand a packet on, and their text.
+ghost use Rattle.std.specs.Prelude.{◌≡◌, ◌≤◌, [], ◌∷◌, IfOk, OnOk, OnErr, IsErrOf, string_bytes};
+ghost use Rattle.mix_base.specs.Faults.{Rose};
 ghost use Rattle.lab_text.specs.WordForms.{line_of};
-ghost use Rattle.mix_top.specs.Report.{line_text, why_of, kind_of, words_behind_tag, block_word, handed_words};
+ghost use Rattle.mix_top.specs.Progress.{GaveFront, GaveText, as_lines};
+ghost use Rattle.mix_top.specs.Report.{Says, why_of, words_of_line};
 
-use crate::items::Item;
-use mix_base::{Bytes, Memory};
-use sphinx_unwrap::{Out, Refused};
-use std::alloc::{AllocError, Global};
+use mix_base::{Memory, PutFault, Sink};
+use sphinx_unwrap::Refused;
+use std::alloc::Global;
 
 /// One line of the report.
-#[derive(Drop)]
+#[derive(Clone, Copy)]
 pub enum ReportLine {
-    /// The arrival of this number was refused.
+    /// The packet of this arrival isn't unwrapped.
     Refuse { number: u64, why: Refused },
-    /// Nothing had arrived that this worker could unwrap.
+    /// Nothing waits that this worker could unwrap.
     Idle { worker: u8 },
     /// This worker holds a packet already.
     Busy { worker: u8 },
-    /// The arrival's epoch is below the floor.
+    /// The epoch of this arrival's packet is below its shard's floor.
     Retired { number: u64, floor: u64 },
-    /// The arrival's tag was spent before.
+    /// The tag of this arrival's packet was spent before.
     Spent { number: u64 },
+    /// Its shard has no room for the tag.
+    Full { number: u64 },
+    /// The disk of its shard failed.
+    Failed { number: u64, shard: u8 },
     /// This worker holds nothing to claim.
     Empty { worker: u8 },
-    /// This packet was handed on.
-    Handed { item: Item },
     /// No packet is due.
     NoneDue,
+    /// The shard's disk failed when its journal was to be opened.
+    Unopened { shard: u8 },
+    /// The shard's journal was opened after a crash, with this floor and so many spent pairs.
+    Restarted { shard: u8, floor: u64, spent: u64 },
+    /// The shard's disk failed when it was to retire epochs.
+    NotRotated { shard: u8 },
+    /// The shard's journal has no room for another floor.
+    RootFull { shard: u8 },
+}
+
+/// Writes a line, where there is one.
+pub fn put_maybe<O: Sink>(
+    alloc: Global,
+    sink: &mut O,
+    line: Option<ReportLine>,
+) -> Result<(), PutFault>
+    ensures whole { OnOk result (GaveText (O.given sink.old) (O.given sink.new) (as_lines line)) }
+    ensures front { OnErr result (GaveFront (O.given sink.old) (O.given sink.new) (as_lines line)) }
+    ensures fault { IsErrOf result PutFault.WriteFault → Rose (O.faults sink.old) (O.faults sink.new) }
+    ensures count { O.faults sink.old ≤ O.faults sink.new }
+{
+    match line {
+        Some(line) => put_line(alloc, sink, &line),
+        None => Ok(()),
+    }
+}
+
+/// Writes a line.
+pub fn put_line<O: Sink>(alloc: Global, sink: &mut O, line: &ReportLine) -> Result<(), PutFault>
+    ensures whole { OnOk result (GaveText (O.given sink.old) (O.given sink.new) (Says line.now ∷ [])) }
+    ensures front { OnErr result (GaveFront (O.given sink.old) (O.given sink.new) (Says line.now ∷ [])) }
+    ensures fault { IsErrOf result PutFault.WriteFault → Rose (O.faults sink.old) (O.faults sink.new) }
+    ensures count { O.faults sink.old ≤ O.faults sink.new }
+{
+    let text = spell(alloc, line)?;
+    sink.put(alloc, text.as_bytes())
 }
 
 /// The text of a line, with its line feed.
-pub fn spell(alloc: Global, line: &ReportLine) -> Result<String, Memory>
-    ensures { IfOk result (λ text. string_bytes text ≡ line_text line.now) }
+fn spell(alloc: Global, line: &ReportLine) -> Result<String, Memory>
+    ensures { IfOk result (λ text. string_bytes text ≡ line_of (words_of_line line.now)) }
 {
     let text = match line {
         ReportLine::Refuse { number, why } => {
@@ -45,9 +83,18 @@ pub fn spell(alloc: Global, line: &ReportLine) -> Result<String, Memory>
             format!(in alloc; "refuse {number} retired {floor}\n")
         }
         ReportLine::Spent { number } => format!(in alloc; "refuse {number} spent\n"),
+        ReportLine::Full { number } => format!(in alloc; "refuse {number} full\n"),
+        ReportLine::Failed { number, shard: _ } => format!(in alloc; "refuse {number} disk\n"),
         ReportLine::Empty { worker } => format!(in alloc; "claim {worker} empty\n"),
-        ReportLine::Handed { item } => handed_text(alloc, item),
         ReportLine::NoneDue => String::from_str(alloc, "none\n"),
+        ReportLine::Unopened { shard } => format!(in alloc; "open {shard} disk\n"),
+        ReportLine::Restarted {
+            shard,
+            floor,
+            spent,
+        } => format!(in alloc; "restart {shard} floor {floor} spent {spent}\n"),
+        ReportLine::NotRotated { shard } => format!(in alloc; "rotate {shard} disk\n"),
+        ReportLine::RootFull { shard } => format!(in alloc; "rotate {shard} full\n"),
     };
     Ok(text?)
 }
@@ -61,81 +108,5 @@ fn why_word(why: Refused) -> &'static str
         Refused::Version => "version",
         Refused::Sealed => "sealed",
         Refused::Commands => "commands",
-    }
-}
-
-/// The line of a packet that is handed on.
-#[tactic(auto, using(crate::proofs::HandedLines::line_of_handed))]
-fn handed_text(alloc: Global, item: &Item) -> Result<String, AllocError>
-    ensures { IfOk result (λ text. string_bytes text ≡ line_of (handed_words item.now)) }
-{
-    let kind = kind_word(&item.out);
-    let number = item.number;
-    let epoch = item.epoch;
-    let tag = hex::encode(alloc, item.tag.as_slice())?;
-    let tail = tail_text(alloc, &item.out)?;
-    format!(in alloc; "{kind} {number} {epoch} {tag} {tail}")
-}
-
-/// The first word of such a line.
-fn kind_word(out: &Out) -> &'static str
-    ensures { result.now ≡ kind_of out.now }
-{
-    match out {
-        Out::Forward { .. } => "forward",
-        Out::Deliver { .. } => "deliver",
-        Out::Reply { .. } => "reply",
-        Out::Damaged { .. } => "damaged",
-    }
-}
-
-/// What stands behind the tag in such a line.
-fn tail_text(alloc: Global, out: &Out) -> Result<String, AllocError>
-    ensures { IfOk result (λ text. string_bytes text ≡ line_of (words_behind_tag out.now)) }
-{
-    match out {
-        Out::Forward { next, packet } => pair_text(alloc, next.as_slice(), packet.as_slice()),
-        Out::Deliver {
-            recipient,
-            body,
-            block,
-        } => {
-            let block = block_text(alloc, block)?;
-            let recipient = hex::encode(alloc, recipient.as_slice())?;
-            let body = hex::encode(alloc, body.as_slice())?;
-            format!(in alloc; "{recipient} {body} {block}\n")
-        }
-        Out::Reply {
-            recipient,
-            surb,
-            payload,
-        } => {
-            let recipient = hex::encode(alloc, recipient.as_slice())?;
-            let rest = pair_text(alloc, surb.as_slice(), payload.as_slice())?;
-            format!(in alloc; "{recipient} {rest}")
-        }
-        Out::Damaged { recipient } => {
-            let recipient = hex::encode(alloc, recipient.as_slice())?;
-            format!(in alloc; "{recipient}\n")
-        }
-    }
-}
-
-/// Two byte lists as the last words of a line.
-fn pair_text(alloc: Global, first: &[u8], second: &[u8]) -> Result<String, AllocError>
-    ensures { IfOk result (λ text. string_bytes text ≡ line_of (encode_lower first.now ∷ encode_lower second.now ∷ [])) }
-{
-    let first = hex::encode(alloc, first)?;
-    let second = hex::encode(alloc, second)?;
-    format!(in alloc; "{first} {second}\n")
-}
-
-/// The word of a reply block: a dash where there is none.
-fn block_text(alloc: Global, block: &Option<Bytes>) -> Result<String, AllocError>
-    ensures { IfOk result (λ text. string_bytes text ≡ block_word block.now) }
-{
-    match block {
-        Some(block) => hex::encode(alloc, block.as_slice()),
-        None => String::from_str(alloc, "-"),
     }
 }

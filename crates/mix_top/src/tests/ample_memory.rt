@@ -1,6 +1,6 @@
 // With ample memory nothing is refused for want of it: 300 packets of the largest laboratory size, over four workers.
 use super::packets::{packet_in, tag, to_recipient};
-use crate::mix_command;
+use crate::{Bench, mix_command};
 use lab_text::Status;
 use mix_base::{MemSink, MemSource};
 use std::alloc::Global;
@@ -62,7 +62,8 @@ fn three_hundred_packets_of_the_largest_size(rt: HostRuntime) -> Result<(), Fail
     words.push(String::from_str(alloc, "drive")?)?;
     let mut source = MemSource::new(script, Vec::new(alloc));
     let mut sink = MemSink::new(alloc, Vec::new(alloc));
-    let status = mix_command(alloc, &words, &mut source, &mut sink);
+    let mut bench = Bench::in_memory(alloc)?;
+    let status = mix_command(alloc, &words, &mut source, &mut sink, &mut bench);
     assert!(rt; status == Status::Done);
     assert!(rt; sink.bytes() == report.as_slice());
     Ok(())

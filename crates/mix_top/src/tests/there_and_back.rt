@@ -1,6 +1,6 @@
 // A message over three nodes with a reply block, its answer over the same nodes, and the reply opened, all by the
 // program's commands; and the same with a byte changed on the way.
-use crate::mix_command;
+use crate::{Bench, mix_command};
 use lab_text::{LineReader, Status, next_word};
 use mix_base::{MemSink, MemSource};
 use std::alloc::{AllocError, Global};
@@ -51,7 +51,8 @@ fn written(rt: &impl Abort, alloc: Global, command: &str, input: &str) -> Result
     }
     let mut source = MemSource::new(input.as_bytes().to_vec(alloc)?, Vec::new(alloc));
     let mut sink = MemSink::new(alloc, Vec::new(alloc));
-    let status = mix_command(alloc, &words, &mut source, &mut sink);
+    let mut bench = Bench::in_memory(alloc)?;
+    let status = mix_command(alloc, &words, &mut source, &mut sink, &mut bench);
     assert!(rt; status == Status::Done, "{command}");
     Ok(String::from_utf8(sink.bytes().to_vec(alloc)?)?)
 }

@@ -3,7 +3,7 @@ use super::packets::{
     forwarded, packet, packet_in, payload, tag, to_maker, to_next_hop, to_recipient,
     to_recipient_after, to_recipient_and_more,
 };
-use crate::mix_command;
+use crate::{Bench, mix_command};
 use lab_text::Status;
 use mix_base::{MemSink, MemSource};
 use std::alloc::{AllocError, Global};
@@ -147,18 +147,32 @@ fn words(alloc: Global, line: &[&str]) -> Result<Vec<String>, AllocError> {
     Ok(words)
 }
 
-/// A command over a script, with the calls of source and sink that fail: its status and what was given.
+/// A command over a script, with the calls of source and sink that fail, over new disks: its status and what was given.
 fn run(
     alloc: Global,
     line: &[&str],
     script: &str,
     reads: &[u64],
     writes: &[u64],
-) -> Result<(Status, MemSink), AllocError> {
+) -> Result<(Status, MemSink), Fail> {
+    run_on(alloc, line, script, reads, writes, &[])
+}
+
+/// The same, where these calls of the first disk fail.
+fn run_on(
+    alloc: Global,
+    line: &[&str],
+    script: &str,
+    reads: &[u64],
+    writes: &[u64],
+    calls: &[u64],
+) -> Result<(Status, MemSink), Fail> {
     let words = words(alloc, line)?;
     let mut source = MemSource::new(filled(alloc, script)?, Vec::from_slice(alloc, reads)?);
     let mut sink = MemSink::new(alloc, Vec::from_slice(alloc, writes)?);
-    let status = mix_command(alloc, &words, &mut source, &mut sink);
+    let mut bench = Bench::in_memory(alloc)?;
+    bench.lab[0].fail_at(Vec::from_slice(alloc, calls)?);
+    let status = mix_command(alloc, &words, &mut source, &mut sink, &mut bench);
     Ok((status, sink))
 }
 
@@ -291,21 +305,9 @@ fn workers_and_ends(rt: HostRuntime) -> Result<(), Fail> {
             ),
             ("an empty script", "", Status::Line { line: 1 }, ""),
             (
-                "a rotation for later",
-                "N\nrotate 5\n",
-                Status::Later { line: 2 },
-                "",
-            ),
-            (
-                "a failure for later",
-                "N\nsend 5\narm 0 1\n",
-                Status::Later { line: 3 },
-                "none\n",
-            ),
-            (
-                "a crash for later",
-                "N\ncrash 0\n",
-                Status::Later { line: 2 },
+                "the other suite",
+                "node ntru 5 64 1 1200000 120000 0000000000000000000000000000000000000000000000000000000000000000\n",
+                Status::Later { line: 1 },
                 "",
             ),
             (
@@ -322,6 +324,69 @@ fn workers_and_ends(rt: HostRuntime) -> Result<(), Fail> {
             ),
         ],
     )
+}
+
+#[test]
+fn rotations(rt: HostRuntime) -> Result<(), Fail> {
+    let alloc = rt.alloc();
+    expect_reports(
+        &rt,
+        alloc,
+        &[
+            (
+                "a packet of an epoch that a rotation retired after its receipt",
+                "N\nrecv 12119999 O\npeel 0\nrotate 12120000\nclaim 0\n",
+                Status::Done,
+                "refuse 1 retired 10\n",
+            ),
+            (
+                "a packet that was received long before a rotation",
+                "N\nrotate 24000000\nrecv 12050000 T\npeel 0\nclaim 0\n",
+                Status::Done,
+                "refuse 1 retired 19\n",
+            ),
+            (
+                "a rotation that the disk refused, and one that stands after a crash",
+                "N\narm 0 1\nrotate 12120000\ncrash 0\nrotate 12120000\ncrash 0\n",
+                Status::Done,
+                "rotate 0 disk\nrestart 0 floor 0 spent 0\nrestart 0 floor 10 spent 0\n",
+            ),
+        ],
+    )
+}
+
+#[test]
+fn a_power_cut_at_each_call_of_a_claim(rt: HostRuntime) -> Result<(), Fail> {
+    let alloc = rt.alloc();
+    for call in 1..=4u64 {
+        for pick in 0..3u64 {
+            let spent = call >= 3 && pick == 1;
+            let script = format!(in alloc;
+                "{ONE_PACKET}arm 0 {call}\nrecv 1000 Q\npeel 0\nclaim 0\ncrash {pick}\nrecv 1000 Q\npeel 0\nclaim 0\nsend 1000\n"
+            )?;
+            let end = if spent {
+                "restart 0 floor 0 spent 2\nrefuse 3 spent\nnone\n"
+            } else {
+                "restart 0 floor 0 spent 1\ndeliver 3 E\n"
+            };
+            let report = format!(in alloc; "deliver 1 D\nrefuse 2 disk\n{end}")?;
+            let (status, sink) = run(alloc, &["drive"], script.as_str(), &[], &[])?;
+            assert!(rt; status == Status::Done, "{call} {pick}");
+            let report = filled(alloc, report.as_str())?;
+            assert!(rt; sink.bytes() == report.as_slice(), "{call} {pick}");
+        }
+    }
+    Ok(())
+}
+
+#[test]
+fn an_opening_that_failed_is_made_up_for_by_the_next_claim(rt: HostRuntime) -> Result<(), Fail> {
+    let alloc = rt.alloc();
+    let (status, sink) = run_on(alloc, &["drive"], ONE_PACKET, &[], &[], &[1])?;
+    assert!(rt; status == Status::Done);
+    let report = filled(alloc, "open 0 disk\ndeliver 1 D\n")?;
+    assert!(rt; sink.bytes() == report.as_slice());
+    Ok(())
 }
 
 #[test]

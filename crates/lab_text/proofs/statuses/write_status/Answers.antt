@@ -9,3 +9,15 @@ returns-in-Memory-clause-whole g c = rw c.in-Memory.is c.put-in-Memory.ensures.w
 
 pub returns-in-Memory-clause-front : goal.returns-in-Memory-clause-front
 returns-in-Memory-clause-front g c = rw c.in-Memory.is c.put-in-Memory.ensures.front
+
+pub returns-in-NoKey-clause-front : goal.returns-in-NoKey-clause-front
+returns-in-NoKey-clause-front g c = rw c.in-NoKey.is c.write_line-in-NoKey.ensures.front
+
+pub returns-in-Foreign-clause-whole : goal.returns-in-Foreign-clause-whole
+returns-in-Foreign-clause-whole g c = rw c.in-Foreign.is c.write_foreign.ensures.whole
+
+pub returns-in-Foreign-clause-front : goal.returns-in-Foreign-clause-front
+returns-in-Foreign-clause-front g c = rw c.in-Foreign.is c.write_foreign.ensures.front
+
+pub returns-in-NoKey-clause-whole : goal.returns-in-NoKey-clause-whole
+returns-in-NoKey-clause-whole g c = rw c.in-NoKey.is c.write_line-in-NoKey.ensures.whole

@@ -1,17 +1,18 @@
-use Rattle.std.proofs.Common.{◌≡◌, ◌+◌, ◌-◌, ◌^◌, ◌≤◌}
+use Rattle.std.proofs.Common.{◌+◌, ◌-◌, ◌^◌, ◌≤◌}
 use Rattle.lab_text.specs.Readers.{SourceGoesOn, lines_given}
-use Rattle.mix_top.specs.Progress.{events_to_come, Tracks}
-use Rattle.mix_top.specs.Seen.{seen}
+use Rattle.mix_top.specs.Progress.{IsKeptNode, Progress, events_to_come}
 use Rattle.mix_top.proofs.drive.answer_events.Given as goal
 
--- what was answered so far; the counts of faults never fall, and each arrival took a line
+-- what was answered so far; what stays of the node and of the source; the sink's count of faults doesn't fall, and each
+-- arrival took a line
 abbrev pub invariant-events : goal.invariant-events
 invariant-events g l = record {
-  answered : Tracks l.initial.node.setup (events_to_come l.initial.reader) (events_to_come l.reader) (seen l.node) (g.O.Sink.given l.initial.sink) (g.O.Sink.given l.sink);
+  answered : Progress g.C.Rack.tells g.S.Suite.meaning (events_to_come l.setup.shards l.initial.reader) (events_to_come l.setup.shards l.reader)
+      l.fn.node l.node (g.O.Sink.given l.fn.sink) (g.O.Sink.given l.sink);
   source : SourceGoesOn l.initial.reader l.reader;
-  setup : l.node.setup ≡ l.initial.node.setup;
+  node : IsKeptNode g.C.Rack.tells g.S.Suite.meaning l.fn.node l.node;
   next : l.node.next ≤ lines_given l.reader + 1;
-  write_faults : g.O.Sink.faults l.initial.sink ≤ g.O.Sink.faults l.sink;
+  write_faults : g.O.Sink.faults l.fn.sink ≤ g.O.Sink.faults l.sink;
 }
 
 abbrev pub decreases-events : goal.decreases-events

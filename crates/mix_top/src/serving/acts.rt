@@ -1,0 +1,156 @@
+// One act at a node, with its line. An act that ends the run gives no line.
+ghost use Rattle.std.specs.Prelude.{◌≡◌, ◌<◌, ◌^◌, ◌-◌, [], ◌∷◌};
+ghost use Rattle.mix_top.specs.Acts.{Claims, Opens, Peels, Receives, Reopens, Rotates, Sends};
+ghost use Rattle.mix_top.specs.Progress.{GoesOn, Serves, SinkGoesOn};
+
+use super::lines::{claim_line, opened_line, peel_line, peel_status, reopened_line, rotation_line};
+use crate::report::{ReportLine, put_line, put_maybe};
+use lab_text::Status;
+use mix_base::{Bytes, Memory, Sink, Suite};
+use node_core::{Node, NodeSetup, write_held};
+use replay_disk::CrashRack;
+use std::alloc::Global;
+
+/// A shard's journal is opened, at the node line.
+pub fn open<C: CrashRack, S: Suite, O: Sink>(
+    alloc: Global,
+    setup: &NodeSetup,
+    node: &mut Node<C, S>,
+    sink: &mut O,
+    shard: u8,
+) -> Result<(), Status>
+    requires setup { node.old.setup ≡ setup.now }
+    requires shard { shard < setup.now.shards }
+    ensures serves { Serves C.tells S.meaning (Opens shard ∷ []) result
+        node.old node.new (O.given sink.old) (O.given sink.new) }
+    ensures goes_on { GoesOn C.tells S.meaning 0 node.old node.new }
+    ensures sink { SinkGoesOn result (O.faults sink.old) (O.faults sink.new) }
+{
+    let line = opened_line(setup, shard, node.ready(alloc, shard))?;
+    put_maybe(alloc, sink, line)?;
+    Ok(())
+}
+
+/// A shard's journal is opened again, after a crash.
+pub fn reopen<C: CrashRack, S: Suite, O: Sink>(
+    alloc: Global,
+    setup: &NodeSetup,
+    node: &mut Node<C, S>,
+    sink: &mut O,
+    shard: u8,
+) -> Result<(), Status>
+    requires setup { node.old.setup ≡ setup.now }
+    requires shard { shard < setup.now.shards }
+    ensures serves { Serves C.tells S.meaning (Reopens shard ∷ []) result
+        node.old node.new (O.given sink.old) (O.given sink.new) }
+    ensures goes_on { GoesOn C.tells S.meaning 0 node.old node.new }
+    ensures sink { SinkGoesOn result (O.faults sink.old) (O.faults sink.new) }
+{
+    let line = reopened_line(setup, shard, node.ready(alloc, shard))?;
+    put_maybe(alloc, sink, line)?;
+    Ok(())
+}
+
+/// A packet arrives.
+pub fn receive<C: CrashRack, S: Suite, O: Sink>(
+    node: &mut Node<C, S>,
+    sink: &mut O,
+    moment: u64,
+    packet: Bytes,
+) -> Result<(), Status>
+    requires room { node.old.next < 2 ^ 64 - 1 }
+    requires moment { moment < 2 ^ 60 }
+    ensures serves { Serves C.tells S.meaning (Receives moment packet ∷ []) result
+        node.old node.new (O.given sink.old) (O.given sink.new) }
+    ensures goes_on { GoesOn C.tells S.meaning 1 node.old node.new }
+    ensures sink { SinkGoesOn result (O.faults sink.old) (O.faults sink.new) }
+{
+    match node.recv(moment, packet.into_vec()) {
+        Ok(()) => Ok(()),
+        Err(Memory) => Err(Status::Memory),
+    }
+}
+
+/// A worker unwraps the oldest arrival.
+pub fn peel<C: CrashRack, S: Suite, O: Sink>(
+    alloc: Global,
+    node: &mut Node<C, S>,
+    sink: &mut O,
+    worker: u8,
+) -> Result<(), Status>
+    requires worker { worker < 4 }
+    requires ciphertext { node.old.setup.geo.ct ≡ S.K.CT }
+    ensures serves { Serves C.tells S.meaning (Peels worker ∷ []) result
+        node.old node.new (O.given sink.old) (O.given sink.new) }
+    ensures goes_on { GoesOn C.tells S.meaning 0 node.old node.new }
+    ensures sink { SinkGoesOn result (O.faults sink.old) (O.faults sink.new) }
+{
+    match node.peel(alloc, worker) {
+        Ok(answer) => {
+            put_maybe(alloc, sink, peel_line(worker, answer))?;
+            Ok(())
+        }
+        Err(fault) => Err(peel_status(fault)),
+    }
+}
+
+/// A worker claims the tag of the packet that it holds.
+pub fn claim<C: CrashRack, S: Suite, O: Sink>(
+    alloc: Global,
+    setup: &NodeSetup,
+    node: &mut Node<C, S>,
+    sink: &mut O,
+    worker: u8,
+) -> Result<(), Status>
+    requires setup { node.old.setup ≡ setup.now }
+    requires worker { worker < 4 }
+    ensures serves { Serves C.tells S.meaning (Claims worker ∷ []) result
+        node.old node.new (O.given sink.old) (O.given sink.new) }
+    ensures goes_on { GoesOn C.tells S.meaning 0 node.old node.new }
+    ensures sink { SinkGoesOn result (O.faults sink.old) (O.faults sink.new) }
+{
+    let line = claim_line(setup, worker, node.claim(alloc, worker))?;
+    put_maybe(alloc, sink, line)?;
+    Ok(())
+}
+
+/// The first packet that is due at a moment is handed on.
+pub fn send<C: CrashRack, S: Suite, O: Sink>(
+    alloc: Global,
+    node: &mut Node<C, S>,
+    sink: &mut O,
+    moment: u64,
+) -> Result<(), Status>
+    ensures serves { Serves C.tells S.meaning (Sends moment ∷ []) result
+        node.old node.new (O.given sink.old) (O.given sink.new) }
+    ensures goes_on { GoesOn C.tells S.meaning 0 node.old node.new }
+    ensures sink { SinkGoesOn result (O.faults sink.old) (O.faults sink.new) }
+{
+    match node.send(moment) {
+        Some(held) => write_held(alloc, sink, &held)?,
+        None => put_line(alloc, sink, &ReportLine::NoneDue)?,
+    }
+    Ok(())
+}
+
+/// A shard retires the epochs below the least that is live at a moment.
+pub fn rotate<C: CrashRack, S: Suite, O: Sink>(
+    alloc: Global,
+    setup: &NodeSetup,
+    node: &mut Node<C, S>,
+    sink: &mut O,
+    moment: u64,
+    shard: u8,
+) -> Result<(), Status>
+    requires setup { node.old.setup ≡ setup.now }
+    requires moment { moment < 2 ^ 60 }
+    requires shard { shard < setup.now.shards }
+    ensures serves { Serves C.tells S.meaning (Rotates moment shard ∷ []) result
+        node.old node.new (O.given sink.old) (O.given sink.new) }
+    ensures goes_on { GoesOn C.tells S.meaning 0 node.old node.new }
+    ensures sink { SinkGoesOn result (O.faults sink.old) (O.faults sink.new) }
+{
+    let line = rotation_line(setup, shard, node.rotate(alloc, shard, moment))?;
+    put_maybe(alloc, sink, line)?;
+    Ok(())
+}
