@@ -35,7 +35,8 @@ pub fn least_live(moment: u64, times: &Times) -> u64
     ensures value { result ≡ epochs.least_live times.now moment }
     ensures live { IsTrue (is_live times.now result moment) }
     ensures least { (epoch : ℕ) → IsTrue (is_live times.now epoch moment) → result ≤ epoch }
-    ensures near { (epoch : ℕ) → Contains (live_epochs times.now moment) epoch → (result ≤ epoch) × (epoch ≤ result + 1) }
+    ensures near { (epoch : ℕ) → Contains (live_epochs times.now moment) epoch →
+        (result ≤ epoch) × (epoch ≤ result + 1) }
 {
     moment.saturating_sub(times.grace()) / times.epoch()
 }

@@ -2,7 +2,7 @@
 ghost use Rattle.std.specs.Prelude.{◌≡◌, ℕ, length, Some, None, IfOk, IfErr};
 ghost use Rattle.epoch_keys.specs.Keys.{epoch_seed};
 ghost use Rattle.epoch_keys.specs.Keys as keys;
-ghost use Rattle.epoch_keys.specs.Faults.{IfNoKey};
+ghost use Rattle.epoch_keys.specs.Faults.{IfNoKey, IfUnpaired};
 
 use crate::KeyFault;
 use mix_base::{Bytes, Kem, PairFault, Suite};
@@ -58,8 +58,9 @@ pub fn epoch_pair<S: Suite>(
 ) -> Result<EpochKey<S>, KeyFault>
     ensures seed { IfOk result (λ key. key.seed ≡ seed.now) }
     ensures epoch { IfOk result (λ key. key.epoch ≡ epoch) }
-    ensures pair { IfOk result (λ key. keys.epoch_pair S.meaning.kem seed.now epoch ≡ Some (key.pk, key.sk)) }
-    ensures no_key { IfErr result (λ fault. IfNoKey fault (λ named. keys.epoch_pair S.meaning.kem seed.now epoch ≡ None)) }
+    ensures pair { IfOk result
+        (λ key. keys.epoch_pair S.meaning.kem seed.now epoch ≡ Some (key.pk, key.sk)) }
+    ensures no_key { IfErr result (IfUnpaired S.meaning.kem seed.now epoch) }
     ensures named { IfErr result (λ fault. IfNoKey fault (λ named. named ≡ epoch)) }
 {
     let mut words = ChaWords::new(&words_key(seed, epoch));

@@ -1,12 +1,11 @@
 // A node's keys at a moment. The ring holds the two keys that it was asked for last, so as moments go on each is
 // derived once.
-ghost use Rattle.std.specs.Prelude.{◌≡◌, ℕ, ◌^◌, ◌<◌, ◌∷◌, List, Some, None, IfSome, IfNone, IfOk, OnOk, OnErr, IfErr, All, Contains};
+ghost use Rattle.std.specs.Prelude.{◌≡◌, ℕ, ◌^◌, ◌<◌, ◌∷◌, List, Some, None, IfSome, IfNone, IfOk};
+ghost use Rattle.std.specs.Prelude.{OnOk, OnErr, IfErr, All, Contains};
 ghost use Rattle.std.specs.Option.{ForSome, option_map, option_to_list};
-ghost use Rattle.epoch_keys.specs.Epochs.{live_epochs};
-ghost use Rattle.epoch_keys.specs.Faults.{IfNoKey};
+ghost use Rattle.epoch_keys.specs.Faults.{IfNoKey, IfUnpaired, IfFirstUnpaired};
 ghost use Rattle.epoch_keys.specs.Keys.{first_without_pair};
-ghost use Rattle.epoch_keys.specs.Keys as keys;
-ghost use Rattle.epoch_keys.specs.Ring.{RingOf, asked, asked_all, held_epochs, is_newest};
+ghost use Rattle.epoch_keys.specs.Ring.{RingOf, asked, asked_all, held_epochs, is_newest, live_by};
 
 use crate::{EpochKey, KeyFault, Times, epoch_pair, live};
 use mix_base::Suite;
@@ -37,9 +36,15 @@ pub struct KeyRing<S: Suite> {
 impl<S: Suite> Model for KeyRing<S> {
     ghost Value = { RingOf };
 
-    ghost view = { λ ring. record { seed = ring.seed; times = ring.times; newest = option_map (λ key. key.value.epoch) ring.newest; before = option_map (λ key. key.value.epoch) ring.before } };
+    ghost view = { λ ring. record {
+      seed = ring.seed;
+      times = ring.times;
+      newest = option_map (λ key. key.value.epoch) ring.newest;
+      before = option_map (λ key. key.value.epoch) ring.before;
+    } };
 
-    ghost invariant = { λ ring. ForSome ring.newest (λ key. key.value.seed ≡ ring.seed) × ForSome ring.before (λ key. key.value.seed ≡ ring.seed) };
+    ghost invariant = { λ ring. ForSome ring.newest (λ key. key.value.seed ≡ ring.seed)
+        × ForSome ring.before (λ key. key.value.seed ≡ ring.seed) };
 }
 
 impl<S: Suite> Drop for KeyRing<S> {
@@ -59,7 +64,8 @@ fn held<S: Suite>(
     epoch: u64,
 ) -> Result<Option<Arc<EpochKey<S>>>, AllocError>
     ensures epoch { IfOk result (λ found. IfSome found (λ key. key.value.epoch ≡ epoch)) }
-    ensures seed { (seed : List ℕ) → ForSome slot.now (λ key. key.value.seed ≡ seed) → IfOk result (λ found. IfSome found (λ key. key.value.seed ≡ seed)) }
+    ensures seed { (seed : List ℕ) → ForSome slot.now (λ key. key.value.seed ≡ seed) →
+        IfOk result (λ found. IfSome found (λ key. key.value.seed ≡ seed)) }
 {
     match slot {
         Some(key) if key.epoch == epoch => Ok(Some(Arc::try_clone(key)?)),
@@ -69,7 +75,8 @@ fn held<S: Suite>(
 
 /// One more owner of the key, if there is one.
 fn shared<S: Suite>(slot: &Option<Arc<EpochKey<S>>>) -> Result<Option<Arc<EpochKey<S>>>, AllocError>
-    ensures { IfOk result (λ found. option_map (λ key. key.value) found ≡ option_map (λ key. key.value) slot.now) }
+    ensures { IfOk result
+        (λ found. option_map (λ key. key.value) found ≡ option_map (λ key. key.value) slot.now) }
 {
     match slot {
         Some(key) => Ok(Some(Arc::try_clone(key)?)),
@@ -94,7 +101,7 @@ impl<S: Suite> KeyRing<S> {
     fn key_of(&self, alloc: Global, epoch: u64) -> Result<Arc<EpochKey<S>>, KeyFault>
         ensures seed { IfOk result (λ key. key.value.seed ≡ self.now.seed) }
         ensures epoch { IfOk result (λ key. key.value.epoch ≡ epoch) }
-        ensures no_key { IfErr result (λ fault. IfNoKey fault (λ named. keys.epoch_pair S.meaning.kem self.now.seed epoch ≡ None)) }
+        ensures no_key { IfErr result (IfUnpaired S.meaning.kem self.now.seed epoch) }
         ensures named { IfErr result (λ fault. IfNoKey fault (λ named. named ≡ epoch)) }
     {
         if let Some(key) = held(&self.newest, epoch)? {
@@ -125,15 +132,21 @@ impl<S: Suite> KeyRing<S> {
     /// a refusal it is as it was.
     pub fn keys_at(&mut self, alloc: Global, moment: u64) -> Result<Keys<S>, KeyFault>
         requires { moment < 2 ^ 60 }
-        ensures epochs { IfOk result (λ keys. keys.first.value.epoch ∷ option_to_list (option_map (λ key. key.value.epoch) keys.other) ≡ live_epochs self.old.times moment) }
+        ensures epochs { IfOk result (λ keys.
+            keys.first.value.epoch ∷ option_to_list (option_map (λ key. key.value.epoch) keys.other)
+            ≡ live_by self.old moment) }
         ensures first_seed { IfOk result (λ keys. keys.first.value.seed ≡ self.old.seed) }
-        ensures other_seed { IfOk result (λ keys. IfSome keys.other (λ key. key.value.seed ≡ self.old.seed)) }
-        ensures all_paired { OnOk result (first_without_pair S.meaning.kem self.old.seed (live_epochs self.old.times moment) ≡ None) }
-        ensures no_key { IfErr result (λ fault. IfNoKey fault (λ named. first_without_pair S.meaning.kem self.old.seed (live_epochs self.old.times moment) ≡ Some named)) }
+        ensures other_seed { IfOk result (λ keys.
+            IfSome keys.other (λ key. key.value.seed ≡ self.old.seed)) }
+        ensures all_paired { OnOk result
+            (first_without_pair S.meaning.kem self.old.seed (live_by self.old moment) ≡ None) }
+        ensures no_key { IfErr result
+            (IfFirstUnpaired S.meaning.kem self.old.seed (live_by self.old moment)) }
         ensures same_seed { self.new.seed ≡ self.old.seed }
         ensures same_times { self.new.times ≡ self.old.times }
-        ensures holds { OnOk result (All (Contains (held_epochs self.new)) (live_epochs self.old.times moment)) }
-        ensures newest { OnOk result (self.new ≡ asked_all self.old (live_epochs self.old.times moment)) }
+        ensures holds { OnOk result
+            (All (Contains (held_epochs self.new)) (live_by self.old moment)) }
+        ensures newest { OnOk result (self.new ≡ asked_all self.old (live_by self.old moment)) }
         ensures refused { OnErr result (self.new ≡ self.old) }
     {
         let live = live(moment, &self.times);

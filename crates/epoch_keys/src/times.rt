@@ -28,7 +28,8 @@ impl Times {
     pub fn new(epoch: u64, grace: u64) -> Result<Times, TimesFault>
         ensures ok { IsOk result ↔ InRange (record { epoch = epoch; grace = grace }) }
         ensures epoch { IsErrOf result TimesFault.Epoch ↔ ¬ ((4 ≤ epoch) × (epoch ≤ 2 ^ 40)) }
-        ensures grace { IsErrOf result TimesFault.Grace ↔ ((4 ≤ epoch) × (epoch ≤ 2 ^ 40) × (epoch / 4 < grace)) }
+        ensures grace { IsErrOf result TimesFault.Grace
+            ↔ ((4 ≤ epoch) × (epoch ≤ 2 ^ 40) × (epoch / 4 < grace)) }
         ensures lengths { IfOk result (λ times. times ≡ record { epoch = epoch; grace = grace }) }
     {
         if !(4..=1 << 40).contains(&epoch) {

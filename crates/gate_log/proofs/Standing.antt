@@ -17,15 +17,6 @@ use Rattle.gate_log.proofs.Gates.{gate_record, gate_closed, gate_open, gate_unsh
 use Rattle.gate_log.proofs.Moments.{contents_at_rest}
 
 -- it depends on its own area alone
-pub stands_same : (log : LogState) (old new : RackState) → area_at log.area new.areas ≡ area_at log.area old.areas → Stands log old → Stands log new
-stands_same log old new same stands =
-    let kept : contents_of log.area old ≡ contents_of log.area new = ap (λ (a : Area). a.contents) (sym same) in
-    record {
-      at_rest = rests_same log.area old.areas new.areas same stands.at_rest;
-      count = subst (λ (xs : List ℕ). length (records log.size xs) ≡ log.count) kept stands.count;
-      closed = subst (λ (xs : List ℕ). IsClosed log.size xs) kept stands.closed;
-    }
-
 pub read_same : (read : ReadState) (old new : RackState) → area_at read.area new.areas ≡ area_at read.area old.areas → WasRead read old → WasRead read new
 read_same read old new same was =
     let kept : contents_of read.area old ≡ contents_of read.area new = ap (λ (a : Area). a.contents) (sym same) in

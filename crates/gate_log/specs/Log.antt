@@ -14,6 +14,10 @@ pub record LogState : Type 0 where
   pub count : ℕ
   pub sound : Bool
 
+-- a sound log
+abbrev pub sound_log : ℕ → ℕ → ℕ → ℕ → LogState
+sound_log area size limit count = record { area = area; size = size; limit = limit; count = count; sound = true }
+
 -- the records that a read of the log's area gives
 abbrev pub records_of : LogState → RackState → List (List ℕ)
 records_of log state = records log.size (contents_of log.area state)
@@ -93,8 +97,11 @@ pub record IsOpeningOf (area size : ℕ) (old : Areas) (image : List ℕ) : Type
 
 -- what is left at every moment as records are appended, as an end is closed, as a log is emptied, as an area is opened, and
 -- as it is read: then no image is new
+abbrev pub AppendLeavesIn : ℕ → ℕ → List (List ℕ) → RackState → RackState → Type 0
+AppendLeavesIn area size new old now = AtEachMoment (EachImage area (IsAppendOf size new (contents_of area old)) old.areas) old now
+
 abbrev pub AppendLeaves : LogState → List (List ℕ) → RackState → RackState → Type 0
-AppendLeaves log new old now = AtEachMoment (EachImage log.area (IsAppendOf log.size new (contents_of log.area old)) old.areas) old now
+AppendLeaves log new old now = AppendLeavesIn log.area log.size new old now
 
 abbrev pub ClosingLeaves : ℕ → ℕ → RackState → RackState → Type 0
 ClosingLeaves area size old now = AtEachMoment (EachImage area (IsClosingOf size (contents_of area old)) old.areas) old now

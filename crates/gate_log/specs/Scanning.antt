@@ -5,6 +5,9 @@ use Rattle.std.specs.List.{concat}
 use Rattle.gate_log.specs.declared.scan.Front.{Front}
 use Rattle.gate_log.specs.declared.scan.Gate.{Gate}
 use Rattle.gate_log.specs.declared.scan.Gate.TheVariants.{Record, Closed, Open}
+use Rattle.replay_disk.specs.Disk.{RackState, contents_of}
+use Rattle.replay_disk.specs.Moments.{AtEachMoment}
+use Rattle.gate_log.specs.Log.{EachImage}
 use Rattle.gate_log.specs.Records.{records}
 
 -- A gate byte that may be there: that of a record, closed, or else none or one with no whole record behind it.
@@ -23,3 +26,7 @@ pub record SameOutside (place size : ℕ) (old image : List ℕ) : Type 0 where
   pub before : take place image ≡ take place old
   pub after : drop (place + size) image ≡ drop (place + size) old
   pub no_shorter : length old ≤ length image
+
+-- what is left at every moment as a range of an area at rest is written: what stands outside the range
+abbrev pub WriteLeaves : ℕ → ℕ → ℕ → RackState → RackState → Type 0
+WriteLeaves area place size old now = AtEachMoment (EachImage area (SameOutside place size (contents_of area old)) old.areas) old now

@@ -1,7 +1,9 @@
 // Why the calls of a log are refused.
 ghost use Rattle.std.specs.Prelude.{◌≡◌};
-ghost use Rattle.gate_log.specs.declared.faults.LogOpen.TheVariants.{Failed as opening_failed, Memory as opening_memory};
-ghost use Rattle.gate_log.specs.declared.faults.LogRead.TheVariants.{Failed as read_failed, Memory as read_memory};
+ghost use Rattle.gate_log.specs.declared.faults.LogOpen.TheVariants.{Failed as opening_failed};
+ghost use Rattle.gate_log.specs.declared.faults.LogOpen.TheVariants.{Memory as opening_memory};
+ghost use Rattle.gate_log.specs.declared.faults.LogRead.TheVariants.{Failed as read_failed};
+ghost use Rattle.gate_log.specs.declared.faults.LogRead.TheVariants.{Memory as read_memory};
 ghost use Rattle.gate_log.specs.Faults.{opening_fault};
 
 use mix_base::{Failed, Memory};

@@ -1,10 +1,14 @@
 // The log itself: opening what a crash may have left, appending, and emptying. A log is sound until a call on its
 // rack fails; then it is opened again.
-ghost use Rattle.std.specs.Prelude.{◌≡◌, ◌≢◌, ℕ, ◌+◌, ◌*◌, ◌<◌, ◌≤◌, ◌^◌, ◌↔◌, ◌++◌, [], ◌∷◌, length, take, true, false, IsTrue, IfOk, IfErr, OnOk, OnErr, IsErr, IsErrOf};
+ghost use Rattle.std.specs.Prelude.{◌≡◌, ◌≢◌, ℕ, ◌+◌, ◌*◌, ◌<◌, ◌≤◌, ◌^◌, ◌↔◌, ◌++◌, [], ◌∷◌};
+ghost use Rattle.std.specs.Prelude.{length, take, true, false, IsTrue, IfOk, IfErr, OnOk, OnErr};
+ghost use Rattle.std.specs.Prelude.{IsErr, IsErrOf};
 ghost use Rattle.std.specs.List.{concat};
-ghost use Rattle.replay_disk.specs.Disk.{RackState, contents_of, ReadsAnImage, MadeNoCall, OnlyRead, Owes};
+ghost use Rattle.replay_disk.specs.Disk.{RackState, contents_of, ReadsAnImage, MadeNoCall};
+ghost use Rattle.replay_disk.specs.Disk.{OnlyRead, Owes};
 ghost use Rattle.gate_log.specs.Faults.{IfOverfull};
-ghost use Rattle.gate_log.specs.Log.{LogState, Stands, AppendLeaves, ResetLeaves, OpeningLeaves, OthersStayThrough, records_of, most_reads};
+ghost use Rattle.gate_log.specs.Log.{LogState, sound_log, Stands, AppendLeaves, ResetLeaves};
+ghost use Rattle.gate_log.specs.Log.{OpeningLeaves, OthersStayThrough, records_of, most_reads};
 ghost use Rattle.gate_log.specs.Records.{records, with_records, emptied, ClosesEnd};
 
 use super::scan::read_front;
@@ -31,9 +35,16 @@ impl Model for GateLog {
 
     ghost Value = { LogState };
 
-    ghost view = { λ l. record { area = l.area; size = l.size; limit = l.limit; count = l.count; sound = l.sound } };
+    ghost view = { λ l. record {
+      area = l.area;
+      size = l.size;
+      limit = l.limit;
+      count = l.count;
+      sound = l.sound;
+    } };
 
-    ghost invariant = { λ l. (l.area < 3) × (0 < l.size) × (l.size ≤ 63) × (l.limit ≤ 2 ^ 26) × (l.count ≤ l.limit) };
+    ghost invariant = { λ l. (l.area < 3) × (0 < l.size) × (l.size ≤ 63) × (l.limit ≤ 2 ^ 26)
+        × (l.count ≤ l.limit) };
 }
 
 /// A log that was opened, with its records one after the other.
@@ -66,23 +77,31 @@ impl GateLog {
         requires limit { limit ≤ 2 ^ 26 }
 
         // The records are those that were there, and the log stands on the rack.
-        ensures records { R.tells → IfOk result (λ opened. opened.records ≡ concat (records size (contents_of area (R.state rack.old)))) }
-        ensures kept { R.tells → OnOk result (records size (contents_of area (R.state rack.new)) ≡ records size (contents_of area (R.state rack.old))) }
+        ensures records { R.tells → IfOk result (λ opened.
+            opened.records ≡ concat (records size (contents_of area (R.state rack.old)))) }
+        ensures kept { R.tells → OnOk result (records size (contents_of area (R.state rack.new))
+            ≡ records size (contents_of area (R.state rack.old))) }
         ensures stands { R.tells → IfOk result (λ opened. Stands opened.log (R.state rack.new)) }
-        ensures log { IfOk result (λ opened. opened.log ≡ record { area = area; size = size; limit = limit; count = opened.log.count; sound = true }) }
+        ensures log { IfOk result (λ opened.
+            opened.log ≡ sound_log area size limit opened.log.count) }
         ensures within { IfOk result (λ opened. opened.log.count ≤ limit) }
         ensures whole { IfOk result (λ opened. length opened.records ≡ size * opened.log.count) }
-        ensures overfull { R.tells → IfErr result (IfOverfull size limit (contents_of area (R.state rack.old))) }
+        ensures overfull { R.tells →
+            IfErr result (IfOverfull size limit (contents_of area (R.state rack.old))) }
 
         // One byte is written, 00 at the end place, and none where the end is closed or where it is refused.
-        ensures contents { R.tells → OnOk result (ClosesEnd size (contents_of area (R.state rack.old)) (contents_of area (R.state rack.new))) }
-        ensures unwritten { R.tells → IfErr result (λ fault. fault ≢ LogOpen.Failed → contents_of area (R.state rack.new) ≡ contents_of area (R.state rack.old)) }
+        ensures contents { R.tells → OnOk result (ClosesEnd size
+            (contents_of area (R.state rack.old)) (contents_of area (R.state rack.new))) }
+        ensures unwritten { R.tells → IfErr result (λ fault. fault ≢ LogOpen.Failed →
+            contents_of area (R.state rack.new) ≡ contents_of area (R.state rack.old)) }
 
         // At every moment a crash leaves the records of an image that was there before.
-        ensures each_moment { R.tells → OpeningLeaves area size (R.state rack.old) (R.state rack.new) }
+        ensures each_moment { R.tells →
+            OpeningLeaves area size (R.state rack.old) (R.state rack.new) }
         ensures image { R.tells → ReadsAnImage (R.state rack.new).areas area }
         ensures room { R.tells → (R.state rack.old).room ≤ (R.state rack.new).room + 1 }
-        ensures owes { Owes (most_reads limit + 3) (IsErrOf result LogOpen.Failed) (R.state rack.old) (R.state rack.new) }
+        ensures owes { Owes (most_reads limit + 3) (IsErrOf result LogOpen.Failed)
+            (R.state rack.old) (R.state rack.new) }
     {
         let read = ReadLog::read(alloc, rack, area, size, limit)?;
         rack.room(1)?;
@@ -102,12 +121,15 @@ impl GateLog {
         requires some { 0 < size }
         requires size { size ≤ 63 }
         requires limit { limit ≤ 2 ^ 26 }
-        ensures records { R.tells → IfOk result (λ found. found.records ≡ concat (take limit (records size (contents_of area (R.state rack.old))))) }
-        ensures more { R.tells → IfOk result (λ found. IsTrue found.more ↔ (limit < length (records size (contents_of area (R.state rack.old))))) }
+        ensures records { R.tells → IfOk result (λ found. found.records
+            ≡ concat (take limit (records size (contents_of area (R.state rack.old))))) }
+        ensures more { R.tells → IfOk result (λ found. IsTrue found.more
+            ↔ (limit < length (records size (contents_of area (R.state rack.old))))) }
         ensures short { IfOk result (λ found. length found.records ≤ size * limit) }
         ensures same { OnlyRead (R.state rack.old) (R.state rack.new) }
         ensures image { R.tells → ReadsAnImage (R.state rack.new).areas area }
-        ensures owes { Owes (most_reads limit) (IsErrOf result LogRead.Failed) (R.state rack.old) (R.state rack.new) }
+        ensures owes { Owes (most_reads limit) (IsErrOf result LogRead.Failed)
+            (R.state rack.old) (R.state rack.new) }
     {
         let front = read_front(alloc, rack, area, size, limit)?;
         Ok(ReadRecords {
@@ -131,9 +153,11 @@ impl GateLog {
         requires room { R.tells → 1 ≤ (R.state rack.old).room }
 
         // The log is empty, and stands on the rack.
-        ensures log { IfOk result (λ log. log ≡ record { area = area; size = size; limit = limit; count = 0; sound = true }) }
-        ensures emptied { R.tells → OnOk result (records size (contents_of area (R.state rack.new)) ≡ []) }
-        ensures contents { R.tells → OnOk result (contents_of area (R.state rack.new) ≡ emptied (contents_of area (R.state rack.old))) }
+        ensures log { IfOk result (λ log. log ≡ sound_log area size limit 0) }
+        ensures emptied { R.tells →
+            OnOk result (records size (contents_of area (R.state rack.new)) ≡ []) }
+        ensures contents { R.tells → OnOk result
+            (contents_of area (R.state rack.new) ≡ emptied (contents_of area (R.state rack.old))) }
         ensures stands { R.tells → IfOk result (λ log. Stands log (R.state rack.new)) }
 
         ensures others { R.tells → OthersStayThrough area (R.state rack.old) (R.state rack.new) }
@@ -154,24 +178,32 @@ impl GateLog {
         requires room { R.tells → self.old.size + 2 ≤ (R.state rack.old).room }
 
         // After Ok the record is there, between an open gate and a closed one.
-        ensures appended { R.tells → OnOk result (records_of self.old (R.state rack.new) ≡ records_of self.old (R.state rack.old) ++ bytes.now ∷ []) }
-        ensures contents { R.tells → OnOk result (contents_of self.old.area (R.state rack.new) ≡ with_records self.old.size (bytes.now ∷ []) (contents_of self.old.area (R.state rack.old))) }
+        ensures appended { R.tells → OnOk result (records_of self.old (R.state rack.new)
+            ≡ records_of self.old (R.state rack.old) ++ bytes.now ∷ []) }
+        ensures contents { R.tells → OnOk result (contents_of self.old.area (R.state rack.new)
+            ≡ with_records self.old.size (bytes.now ∷ [])
+            (contents_of self.old.area (R.state rack.old))) }
         ensures stands { R.tells → OnOk result (Stands self.new (R.state rack.new)) }
         ensures counted { OnOk result (self.new ≡ record self.old { count = self.old.count + 1 }) }
 
         // A full log is refused, and nothing is done.
         ensures full { IsErrOf result LogAppend.LogFull ↔ (self.old.count ≡ self.old.limit) }
         ensures full_log { IsErrOf result LogAppend.LogFull → self.new ≡ self.old }
-        ensures full_rack { IsErrOf result LogAppend.LogFull → MadeNoCall (R.state rack.old) (R.state rack.new) }
+        ensures full_rack { IsErrOf result LogAppend.LogFull →
+            MadeNoCall (R.state rack.old) (R.state rack.new) }
 
         // At every moment a crash leaves the old records, or these and the new one.
-        ensures each_moment { R.tells → AppendLeaves self.old (bytes.now ∷ []) (R.state rack.old) (R.state rack.new) }
+        ensures each_moment { R.tells →
+            AppendLeaves self.old (bytes.now ∷ []) (R.state rack.old) (R.state rack.new) }
         ensures image { R.tells → ReadsAnImage (R.state rack.new).areas self.old.area }
-        ensures room { R.tells → (R.state rack.old).room ≤ (R.state rack.new).room + self.old.size + 2 }
+        ensures room { R.tells →
+            (R.state rack.old).room ≤ (R.state rack.new).room + self.old.size + 2 }
 
         // It fails only where the rack did, and must then be opened again.
-        ensures failed_log { IsErrOf result LogAppend.Failed → self.new ≡ record self.old { sound = false } }
-        ensures owes { Owes 4 (IsErrOf result LogAppend.Failed) (R.state rack.old) (R.state rack.new) }
+        ensures failed_log { IsErrOf result LogAppend.Failed →
+            self.new ≡ record self.old { sound = false } }
+        ensures owes { Owes 4 (IsErrOf result LogAppend.Failed)
+            (R.state rack.old) (R.state rack.new) }
     {
         if self.count == self.limit {
             return Err(LogAppend::LogFull);
@@ -197,13 +229,16 @@ impl GateLog {
 
         // After Ok there is no record: a closed gate stands first.
         ensures emptied { R.tells → OnOk result (records_of self.old (R.state rack.new) ≡ []) }
-        ensures contents { R.tells → OnOk result (contents_of self.old.area (R.state rack.new) ≡ emptied (contents_of self.old.area (R.state rack.old))) }
+        ensures contents { R.tells → OnOk result (contents_of self.old.area (R.state rack.new)
+            ≡ emptied (contents_of self.old.area (R.state rack.old))) }
         ensures stands { R.tells → OnOk result (Stands self.new (R.state rack.new)) }
         ensures log { OnOk result (self.new ≡ record self.old { count = 0 }) }
 
         // Where there was a record, a crash leaves at every moment the old records or none.
-        ensures each_moment { R.tells → 0 < self.old.count → ResetLeaves self.old (R.state rack.old) (R.state rack.new) }
-        ensures others { R.tells → OthersStayThrough self.old.area (R.state rack.old) (R.state rack.new) }
+        ensures each_moment { R.tells → 0 < self.old.count →
+            ResetLeaves self.old (R.state rack.old) (R.state rack.new) }
+        ensures others { R.tells →
+            OthersStayThrough self.old.area (R.state rack.old) (R.state rack.new) }
         ensures image { R.tells → ReadsAnImage (R.state rack.new).areas self.old.area }
         ensures room { R.tells → (R.state rack.old).room ≤ (R.state rack.new).room + 1 }
 
@@ -245,7 +280,7 @@ impl GateLog {
         requires size { size ≤ 63 }
         requires limit { limit ≤ 2 ^ 26 }
         requires count { count ≤ limit }
-        ensures { result ≡ record { area = area; size = size; limit = limit; count = count; sound = true } }
+        ensures { result ≡ sound_log area size limit count }
     {
         GateLog {
             area,

@@ -1,9 +1,12 @@
 // Opening a log in two parts. The reading brings the area to the disk, reads its records, and writes nothing. The
 // closing puts a closed gate behind them where none stands, and takes no memory.
-ghost use Rattle.std.specs.Prelude.{◌≡◌, ◌≢◌, ℕ, ◌+◌, ◌*◌, ◌<◌, ◌≤◌, ◌^◌, length, true, IsTrue, IfOk, OnOk, IfErr, IsErr, IsErrOf};
-ghost use Rattle.replay_disk.specs.Disk.{RackState, contents_of, ReadsAnImage, ContentsAreImages, MadeNoCall, Owes};
+ghost use Rattle.std.specs.Prelude.{◌≡◌, ◌≢◌, ℕ, ◌+◌, ◌*◌, ◌<◌, ◌≤◌, ◌^◌, length, true, IsTrue};
+ghost use Rattle.std.specs.Prelude.{IfOk, OnOk, IfErr, IsErr, IsErrOf};
+ghost use Rattle.replay_disk.specs.Disk.{RackState, contents_of, ReadsAnImage, ContentsAreImages};
+ghost use Rattle.replay_disk.specs.Disk.{MadeNoCall, Owes};
 ghost use Rattle.gate_log.specs.Faults.{IfOverfull};
-ghost use Rattle.gate_log.specs.Log.{ReadState, WasRead, Stands, ReadingLeaves, ClosingLeaves, most_reads};
+ghost use Rattle.gate_log.specs.Log.{ReadState, WasRead, sound_log, Stands, ReadingLeaves};
+ghost use Rattle.gate_log.specs.Log.{ClosingLeaves, most_reads};
 ghost use Rattle.gate_log.specs.Records.{ClosesEnd};
 
 use super::scan::{Front, Gate, read_front};
@@ -31,9 +34,17 @@ impl Model for ReadLog {
 
     ghost Value = { ReadState };
 
-    ghost view = { λ l. record { area = l.area; size = l.size; limit = l.limit; count = l.count; closed = l.closed; records = l.records } };
+    ghost view = { λ l. record {
+      area = l.area;
+      size = l.size;
+      limit = l.limit;
+      count = l.count;
+      closed = l.closed;
+      records = l.records;
+    } };
 
-    ghost invariant = { λ l. (l.area < 3) × (0 < l.size) × (l.size ≤ 63) × (l.limit ≤ 2 ^ 26) × (l.count ≤ l.limit) };
+    ghost invariant = { λ l. (l.area < 3) × (0 < l.size) × (l.size ≤ 63) × (l.limit ≤ 2 ^ 26)
+        × (l.count ≤ l.limit) };
 }
 
 impl ReadLog {
@@ -53,18 +64,22 @@ impl ReadLog {
 
         // The rack is as it was read.
         ensures was_read { R.tells → IfOk result (λ read. WasRead read (R.state rack.new)) }
-        ensures log { IfOk result (λ read. read ≡ record { area = area; size = size; limit = limit; count = read.count; closed = read.closed; records = read.records }) }
+        ensures log { IfOk result (λ read.
+            read ≡ record read { area = area; size = size; limit = limit }) }
         ensures within { IfOk result (λ read. read.count ≤ limit) }
         ensures whole { IfOk result (λ read. length read.records ≡ size * read.count) }
-        ensures overfull { R.tells → IfErr result (IfOverfull size limit (contents_of area (R.state rack.old))) }
+        ensures overfull { R.tells →
+            IfErr result (IfOverfull size limit (contents_of area (R.state rack.old))) }
 
         // Nothing is written, whatever the answer: a crash leaves at every moment what it might have left before.
-        ensures unwritten { R.tells → contents_of area (R.state rack.new) ≡ contents_of area (R.state rack.old) }
+        ensures unwritten { R.tells →
+            contents_of area (R.state rack.new) ≡ contents_of area (R.state rack.old) }
         ensures each_moment { R.tells → ReadingLeaves area (R.state rack.old) (R.state rack.new) }
         ensures image { R.tells → ReadsAnImage (R.state rack.new).areas area }
         ensures images { R.tells → ContentsAreImages (R.state rack.old).areas }
         ensures room { R.tells → (R.state rack.new).room ≡ (R.state rack.old).room }
-        ensures owes { Owes (most_reads limit + 1) (IsErrOf result LogOpen.Failed) (R.state rack.old) (R.state rack.new) }
+        ensures owes { Owes (most_reads limit + 1) (IsErrOf result LogOpen.Failed)
+            (R.state rack.old) (R.state rack.new) }
     {
         rack.sync(area)?;
         let front = read_front(alloc, rack, area, size, limit)?;
@@ -83,7 +98,14 @@ impl ReadLog {
         requires size { size ≤ 63 }
         requires limit { limit ≤ 2 ^ 26 }
         requires count { front.count ≤ limit }
-        ensures { result ≡ record { area = area; size = size; limit = limit; count = front.count; closed = closed; records = front.records.items } }
+        ensures { result ≡ record {
+          area = area;
+          size = size;
+          limit = limit;
+          count = front.count;
+          closed = closed;
+          records = front.records.items;
+        } }
     {
         let Front { records, count, .. } = front;
         ReadLog {
@@ -126,15 +148,18 @@ impl ReadLog {
 
         // The log has the records that were read, and stands on the rack.
         ensures records { IfOk result (λ opened. opened.records ≡ self.records) }
-        ensures log { IfOk result (λ opened. opened.log ≡ record { area = self.area; size = self.size; limit = self.limit; count = self.count; sound = true }) }
+        ensures log { IfOk result (λ opened.
+            opened.log ≡ sound_log self.area self.size self.limit self.count) }
         ensures stands { R.tells → IfOk result (λ opened. Stands opened.log (R.state rack.new)) }
 
         // One byte is written, 00 at the end place, and none where the end is closed.
-        ensures contents { R.tells → OnOk result (ClosesEnd self.size (contents_of self.area (R.state rack.old)) (contents_of self.area (R.state rack.new))) }
+        ensures contents { R.tells → OnOk result (ClosesEnd self.size
+            (contents_of self.area (R.state rack.old)) (contents_of self.area (R.state rack.new))) }
         ensures closed { IsTrue self.closed → MadeNoCall (R.state rack.old) (R.state rack.new) }
 
         // At every moment a crash leaves the records that were read.
-        ensures each_moment { R.tells → ClosingLeaves self.area self.size (R.state rack.old) (R.state rack.new) }
+        ensures each_moment { R.tells →
+            ClosingLeaves self.area self.size (R.state rack.old) (R.state rack.new) }
         ensures image { R.tells → ReadsAnImage (R.state rack.new).areas self.area }
         ensures room { R.tells → (R.state rack.old).room ≤ (R.state rack.new).room + 1 }
         ensures owes { Owes 2 (IsErr result) (R.state rack.old) (R.state rack.new) }
@@ -146,7 +171,7 @@ impl ReadLog {
     /// The log that was read.
     fn opened(self) -> OpenedLog
         ensures records { result.records ≡ self.records }
-        ensures log { result.log ≡ record { area = self.area; size = self.size; limit = self.limit; count = self.count; sound = true } }
+        ensures log { result.log ≡ sound_log self.area self.size self.limit self.count }
     {
         let ReadLog {
             area,

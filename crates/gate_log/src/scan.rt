@@ -1,5 +1,6 @@
 // Reading the records of an area from its front, as many as a log may have, in blocks.
-ghost use Rattle.std.specs.Prelude.{◌≡◌, ◌↔◌, IsTrue, ℕ, ◌+◌, ◌-◌, ◌*◌, ◌/◌, ◌<◌, ◌≤◌, ◌^◌, ◌++◌, length, take, drop, min, vec_len, IfOk, OnOk, IsErr, IsErrOf};
+ghost use Rattle.std.specs.Prelude.{◌≡◌, ◌↔◌, IsTrue, ℕ, ◌+◌, ◌-◌, ◌*◌, ◌/◌, ◌<◌, ◌≤◌, ◌^◌, ◌++◌};
+ghost use Rattle.std.specs.Prelude.{length, take, drop, min, vec_len, IfOk, OnOk, IsErr, IsErrOf};
 ghost use Rattle.std.specs.List.{concat};
 ghost use Rattle.replay_disk.specs.Disk.{contents_of, ReadsAnImage, OnlyRead, Owes};
 ghost use Rattle.gate_log.specs.Log.{most_reads};
@@ -57,12 +58,14 @@ pub fn read_front<R: Rack>(
     requires some { 0 < size }
     requires size { size ≤ 63 }
     requires limit { limit ≤ 2 ^ 26 }
-    ensures front { R.tells → IfOk result (IsFront size limit (contents_of area (R.state rack.old))) }
+    ensures front { R.tells →
+        IfOk result (IsFront size limit (contents_of area (R.state rack.old))) }
     ensures within { IfOk result (λ front. front.count ≤ limit) }
     ensures whole { IfOk result (λ front. vec_len front.records ≡ size * front.count) }
     ensures same { OnlyRead (R.state rack.old) (R.state rack.new) }
     ensures image { R.tells → ReadsAnImage (R.state rack.new).areas area }
-    ensures owes { Owes (most_reads limit) (IsErrOf result LogRead.Failed) (R.state rack.old) (R.state rack.new) }
+    ensures owes { Owes (most_reads limit) (IsErrOf result LogRead.Failed)
+        (R.state rack.old) (R.state rack.new) }
 {
     let mut records = Vec::new(alloc);
     let count = read_blocks(rack, area, size, limit, &mut records)?;
@@ -86,13 +89,16 @@ fn read_blocks<R: Rack>(
     requires size { size ≤ 63 }
     requires limit { limit ≤ 2 ^ 26 }
     requires none { vec_len found.old ≡ 0 }
-    ensures count { R.tells → IfOk result (λ n. n ≡ min limit (length (records size (contents_of area (R.state rack.old))))) }
-    ensures found { R.tells → IfOk result (λ n. found.new.items ≡ concat (take n (records size (contents_of area (R.state rack.old))))) }
+    ensures count { R.tells → IfOk result (λ n.
+        n ≡ min limit (length (records size (contents_of area (R.state rack.old))))) }
+    ensures found { R.tells → IfOk result (λ n.
+        found.new.items ≡ concat (take n (records size (contents_of area (R.state rack.old))))) }
     ensures within { IfOk result (λ n. n ≤ limit) }
     ensures whole { IfOk result (λ n. vec_len found.new ≡ size * n) }
     ensures same { OnlyRead (R.state rack.old) (R.state rack.new) }
     ensures image { R.tells → ReadsAnImage (R.state rack.new).areas area }
-    ensures owes { Owes (limit / 128 + 1) (IsErrOf result LogRead.Failed) (R.state rack.old) (R.state rack.new) }
+    ensures owes { Owes (limit / 128 + 1) (IsErrOf result LogRead.Failed)
+        (R.state rack.old) (R.state rack.new) }
 {
     let mut buf = [0; 8193];
     for block in 0..limit / 128 + 1 {
@@ -124,9 +130,12 @@ fn read_block<R: Rack>(
     requires range { count * (size + 1) + length buf.old ≤ 2 ^ 40 }
     requires long { 128 * (size + 1) + 1 ≤ length buf.old }
     requires there { R.tells → count ≤ length (records size (contents_of area (R.state rack.old))) }
-    requires so_far { R.tells → found.old.items ≡ concat (take count (records size (contents_of area (R.state rack.old)))) }
-    ensures taken { R.tells → IfOk result (λ n. n ≡ min most (length (records size (contents_of area (R.state rack.old))) - count)) }
-    ensures found { R.tells → IfOk result (λ n. found.new.items ≡ concat (take (count + n) (records size (contents_of area (R.state rack.old))))) }
+    requires so_far { R.tells →
+        found.old.items ≡ concat (take count (records size (contents_of area (R.state rack.old)))) }
+    ensures taken { R.tells → IfOk result (λ n.
+        n ≡ min most (length (records size (contents_of area (R.state rack.old))) - count)) }
+    ensures found { R.tells → IfOk result (λ n. found.new.items
+        ≡ concat (take (count + n) (records size (contents_of area (R.state rack.old))))) }
     ensures within { IfOk result (λ n. n ≤ most) }
     ensures whole { IfOk result (λ n. vec_len found.new ≡ vec_len found.old + size * n) }
     ensures long { length buf.new ≡ length buf.old }
@@ -149,7 +158,8 @@ fn copy_records(
 ) -> Result<u64, AllocError>
     requires size { size ≤ 63 }
     ensures count { IfOk result (λ n. n ≡ min most (length (records size bytes.now))) }
-    ensures found { IfOk result (λ n. found.new.items ≡ found.old.items ++ concat (take n (records size bytes.now))) }
+    ensures found { IfOk result (λ n.
+        found.new.items ≡ found.old.items ++ concat (take n (records size bytes.now))) }
     ensures whole { IfOk result (λ n. vec_len found.new ≡ vec_len found.old + size * n) }
     ensures within { IfOk result (λ n. n ≤ most) }
 {
@@ -171,7 +181,8 @@ fn gate_at<R: Rack>(rack: &mut R, area: u8, size: usize, at: u64) -> Result<Gate
     requires area { area < 3 }
     requires size { size ≤ 63 }
     requires range { at + size + 2 ≤ 2 ^ 40 }
-    ensures gate { R.tells → IfOk result (λ gate. gate ≡ gate_of size (drop at (contents_of area (R.state rack.old)))) }
+    ensures gate { R.tells →
+        IfOk result (λ gate. gate ≡ gate_of size (drop at (contents_of area (R.state rack.old)))) }
     ensures same { OnlyRead (R.state rack.old) (R.state rack.new) }
     ensures image { R.tells → ReadsAnImage (R.state rack.new).areas area }
     ensures owes { Owes 1 (IsErr result) (R.state rack.old) (R.state rack.new) }

@@ -20,14 +20,6 @@ log_bytes-one one two epoch even = rw (eq-eqb (area_of epoch) 1 even) refl
 pub log_bytes-two : (one two : List ℕ) (epoch : ℕ) → area_of epoch ≡ 2 → log_bytes one two epoch ≡ two
 log_bytes-two one two epoch odd = rw (ne_eqb (area_of epoch) 1 (λ even. omega (arith, even, odd))) refl
 
--- what holds of each area and its bytes holds of the area of an epoch
-pub of_area : (P : ℕ → List ℕ → Type 0) (one two : List ℕ) (epoch : ℕ) → P 1 one → P 2 two → P (area_of epoch) (log_bytes one two epoch)
-of_area P one two epoch first second =
-    elim (cases_lt (epoch % 2) 1) [
-      | inl even ↦ let here : area_of epoch ≡ 1 = omega arith in rw (log_bytes-one one two epoch here, here) first
-      | inr odd ↦ let here : area_of epoch ≡ 2 = omega arith in rw (log_bytes-two one two epoch here, here) second
-    ]
-
 -- what holds of the areas of an epoch and of the next one, and of their bytes before and now, holds of each area
 pub both_areas : (P : ℕ → List ℕ → List ℕ → Type 0) (epoch : ℕ) (one two one' two' : List ℕ) → P (area_of epoch) (log_bytes one two epoch) (log_bytes one' two' epoch)
     → P (area_of (epoch + 1)) (log_bytes one two (epoch + 1)) (log_bytes one' two' (epoch + 1)) → P 1 one one' × P 2 two two'

@@ -92,13 +92,6 @@ raised_roots floor book above = rw (lt-leb floor book.floor above) refl
 pub begun_roots : (epoch : ℕ) (book : StoredBook) → has_begun epoch book ≡ false → (begun_with epoch book).roots ≡ book.roots ++ Begin epoch ∷ []
 begun_roots epoch book new = rw new refl
 
-begun_grows : (epoch : ℕ) (book : StoredBook) → length book.roots ≤ length (begun_with epoch book).roots
-begun_grows epoch book =
-    elim (cases_Bool (has_begun epoch book)) [
-      | inl there ↦ rw there (omega arith)
-      | inr new ↦ omega (arith, ap (λ (roots : List RootRecord). length roots) (begun_roots epoch book new), length-append book.roots (Begin epoch ∷ []))
-    ]
-
 -- ---- the room that an accepted claim finds in the root
 
 pub room_to_begin : (limit epoch : ℕ) (tag : List ℕ) (least : ℕ) (book : StoredBook) → IsAccepted limit epoch tag least book → has_begun epoch (raised least book) ≡ false

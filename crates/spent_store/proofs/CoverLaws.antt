@@ -1,6 +1,6 @@
 -- What a change does to the pairs that a store will never accept again: they stay so, a claim adds its own, and no
 -- others come.
-use Rattle.std.specs.Prelude.{◌≡◌, ℕ, ◌≤◌, ◌==◌, ◌⊎◌, nat_le, max, true, List, [], ◌∷◌, ◌++◌, map, filter, Contains, Ok}
+use Rattle.std.specs.Prelude.{◌≡◌, ℕ, ◌≤◌, ◌==◌, ◌⊎◌, nat_le, true, List, [], ◌∷◌, ◌++◌, map, filter, Contains, Ok}
 use Rattle.std.specs.List.{list_any, flat_map}
 use Rattle.std.proofs.Common.{refl, sym, subst, ◌∙◌, inl, inr, arith, append-nil}
 use Rattle.std.proofs.lemmas.Bool.{cases_lt, cases_eq, cases_Bool, eq-eqb, ne_eqb, lt-leb, le-leb}
@@ -8,8 +8,7 @@ use Rattle.std.proofs.lemmas.List.{map-append}
 use Rattle.std.proofs.lemmas.List.Elements.{All-contains, All-map, All-from_recursion, Contains-append_left, Contains-append_right, Contains-append_cases}
 use Rattle.std.proofs.lemmas.Grind.{flat_map-append}
 use Rattle.spent_store.specs.Books.{EpochLog, StoredBook, has_begun, pairs, IsCovered}
-use Rattle.spent_store.specs.Changes.{raised, begun_with, log_with, added, claimed, claim_stages, retirement_stages, made}
-use Rattle.mix_base.specs.declared.shards.Shape.{Shape}
+use Rattle.spent_store.specs.Changes.{raised, begun_with, log_with, added, claimed, claim_stages, retirement_stages}
 use Rattle.spent_store.proofs.ClaimLaws.{begins}
 use Rattle.mix_base.proofs.Members.{Contains-map}
 
@@ -70,13 +69,6 @@ raised-pairs floor book pair there =
     elim (cases_lt book.floor floor) [
       | inl above ↦ no_more_kept floor pair book.logs (rw (lt-leb floor book.floor above) at there)
       | inr below ↦ rw (le-leb floor book.floor below) at there
-    ]
-
-pub raised-floor : (floor : ℕ) (book : StoredBook) → (raised floor book).floor ≡ max book.floor floor
-raised-floor floor book =
-    elim (cases_lt book.floor floor) [
-      | inl above ↦ rw (lt-leb floor book.floor above) (omega arith)
-      | inr below ↦ rw (le-leb floor book.floor below) (omega arith)
     ]
 
 -- ---- an epoch that begins changes no pair and no floor
@@ -180,11 +172,6 @@ added-spent epoch tags tag book there among = added_there epoch tags tag book.lo
 pub added-only : (epoch : ℕ) (tags : List (List ℕ)) (book : StoredBook) (pair : ℕ × List ℕ) → Contains (pairs (added epoch tags book)) pair → Contains (pairs book) pair ⊎ Contains (of_epoch epoch tags) pair
 added-only epoch tags book pair there = added_only epoch tags pair book.logs there
 
--- ---- a root that is made
-
-pub made-covered : (shape : Shape) (book : StoredBook) (epoch : ℕ) (tag : List ℕ) → IsCovered (Ok book) epoch tag → IsCovered (Ok (made shape book)) epoch tag
-made-covered shape book epoch tag covered = covered
-
 -- ---- a claim
 
 -- what was covered stays covered
@@ -194,12 +181,6 @@ begun_with-covered new_epoch book epoch tag covered =
       | inl retired ↦ inl (omega (arith, retired, begun_with-floor new_epoch book))
       | inr spent ↦ inr (subst (λ (found : List (ℕ × List ℕ)). Contains found (epoch, tag)) (sym (begun_with-pairs new_epoch book)) spent)
     ]
-
-pub claimed-covered : (new_epoch : ℕ) (new_tags : List (List ℕ)) (least : ℕ) (book : StoredBook) (epoch : ℕ) (tag : List ℕ) → IsCovered (Ok book) epoch tag
-    → IsCovered (Ok (claimed new_epoch new_tags least book)) epoch tag
-claimed-covered new_epoch new_tags least book epoch tag covered =
-    added-covered new_epoch new_tags (begun_with new_epoch (raised least book)) epoch tag
-    (begun_with-covered new_epoch (raised least book) epoch tag (raised-covered least book epoch tag covered))
 
 -- each claimed pair is spent
 pub claimed-spent : (epoch : ℕ) (tags : List (List ℕ)) (tag : List ℕ) (least : ℕ) (book : StoredBook) → Contains tags tag → Contains (pairs (claimed epoch tags least book)) (epoch, tag)
@@ -213,10 +194,6 @@ claimed-only epoch tags least book pair there =
       | inl before ↦ inl (raised-pairs least book pair (subst (λ (found : List (ℕ × List ℕ)). Contains found pair) (begun_with-pairs epoch (raised least book)) before))
       | inr new ↦ inr new
     ]
-
--- the floor is the greater of the old one and the least live epoch
-pub claimed-floor : (epoch : ℕ) (tags : List (List ℕ)) (least : ℕ) (book : StoredBook) → (claimed epoch tags least book).floor ≡ max book.floor least
-claimed-floor epoch tags least book = begun_with-floor epoch (raised least book) ∙ raised-floor least book
 
 -- ---- the stages of a change
 
@@ -247,12 +224,6 @@ claim_stages-only epoch tags least book stage pair there spent =
     (λ here. inl (raised-pairs least book pair (subst (λ (found : List (ℕ × List ℕ)). Contains found pair) (begun_with-pairs epoch (raised least book)) here)))
     (claimed-only epoch tags least book pair) there spent
 
--- and the floor is the old one or the least live epoch, the greater of them once it was raised
-pub claim_stages-floor : (epoch : ℕ) (tags : List (List ℕ)) (least : ℕ) (book stage : StoredBook) → Contains (claim_stages epoch tags least book) stage → (stage.floor ≡ book.floor) ⊎ (stage.floor ≡ max book.floor least)
-claim_stages-floor epoch tags least book stage there =
-    each_stage (λ (b : StoredBook). (b.floor ≡ book.floor) ⊎ (b.floor ≡ max book.floor least)) epoch tags least book stage
-    (inl refl) (inr (raised-floor least book)) (inr (begun_with-floor epoch (raised least book) ∙ raised-floor least book)) (inr (claimed-floor epoch tags least book)) there
-
 -- the same of a retirement
 pub retirement_stages-covered : (floor : ℕ) (book stage : StoredBook) (epoch : ℕ) (tag : List ℕ) → Contains (retirement_stages floor book) stage → IsCovered (Ok book) epoch tag → IsCovered (Ok stage) epoch tag
 retirement_stages-covered floor book stage epoch tag there covered =
@@ -261,7 +232,3 @@ retirement_stages-covered floor book stage epoch tag there covered =
 pub retirement_stages-only : (floor : ℕ) (book stage : StoredBook) (pair : ℕ × List ℕ) → Contains (retirement_stages floor book) stage → Contains (pairs stage) pair → Contains (pairs book) pair
 retirement_stages-only floor book stage pair there spent =
     both_stages (λ (b : StoredBook). Contains (pairs b) pair → Contains (pairs book) pair) floor book stage (λ here. here) (raised-pairs floor book pair) there spent
-
-pub retirement_stages-floor : (floor : ℕ) (book stage : StoredBook) → Contains (retirement_stages floor book) stage → (stage.floor ≡ book.floor) ⊎ (stage.floor ≡ max book.floor floor)
-retirement_stages-floor floor book stage there =
-    both_stages (λ (b : StoredBook). (b.floor ≡ book.floor) ⊎ (b.floor ≡ max book.floor floor)) floor book stage (inl refl) (inr (raised-floor floor book)) there

@@ -1,13 +1,12 @@
 -- What the bytes of a store say while one step of a change is being written: the book before the step or the book
 -- after it, whatever stands in an area that no begun epoch uses. And the books that an opening which didn't succeed
 -- leaves.
-use Rattle.std.specs.Prelude.{◌≡◌, ℕ, ◌+◌, ◌^◌, ◌<◌, ◌≤◌, ◌==◌, ◌⊎◌, nat_lt, Bool, true, false, List, [], ◌∷◌, ◌++◌, length, map, Contains, Some, None, Result, Ok, if◌then◌else◌}
+use Rattle.std.specs.Prelude.{◌≡◌, ℕ, ◌+◌, ◌^◌, ◌<◌, ◌≤◌, ◌==◌, ◌⊎◌, nat_lt, Bool, true, false, List, [], ◌∷◌, length, map, Contains, Some, None, Result, Ok, if◌then◌else◌}
 use Rattle.std.specs.List.{list_any}
 use Rattle.std.proofs.Common.{refl, sym, ap, ◌∙◌, inl, inr, arith}
-use Rattle.std.proofs.lemmas.Bool.{cases_lt, cases_Bool, ne_eqb, eqb-true, eqb-false, ltb-false, or_from, or_parts, or_cases}
+use Rattle.std.proofs.lemmas.Bool.{ne_eqb, eqb-false, ltb-false, or_from, or_parts}
 use Rattle.std.proofs.lemmas.List.{length-map, get_or-map}
 use Rattle.std.proofs.lemmas.List.Elements.{Contains-append_left, Contains-append_right}
-use Rattle.std.proofs.lemmas.List.Folds.{list_any-append}
 use Rattle.mix_base.specs.declared.shards.Shape.{Shape}
 use Rattle.gate_log.specs.Log.{IsOldOrWith}
 use Rattle.gate_log.specs.Records.{records}
@@ -16,8 +15,7 @@ use Rattle.spent_store.specs.Books.{StoredBook, begun, has_begun, area_of, log_b
 use Rattle.spent_store.specs.Changes.{raised, begun_with, added, made, made_where_read}
 use Rattle.spent_store.specs.Journals.{Journal, unopened}
 use Rattle.spent_store.proofs.BookLaws.{both_areas, book_parts, begun_said, roots_said, root_count, same_book, empty_book, book_unrecorded, none_mapped}
-use Rattle.spent_store.proofs.ChangeLaws.{other_area, still_used, floor_added, begin_added, tag_added, made_first}
-use Rattle.spent_store.proofs.ClaimLaws.{raised_below, begun_before, begun-raised, begun-begun_with}
+use Rattle.spent_store.proofs.ChangeLaws.{other_area, floor_added, begin_added, tag_added, made_first}
 use Rattle.spent_store.specs.declared.root.RootRecord.{RootRecord}
 use Rattle.spent_store.specs.declared.root.RootRecord.TheVariants.{Made, Begin, Floor}
 use Rattle.spent_store.specs.declared.faults.Objection.{Objection}
@@ -75,33 +73,6 @@ pub logs_stay_beside : (book : StoredBook) (epoch : ℕ) (one two one' two' : Li
 logs_stay_beside book epoch one two one' two' near at new there =
     let unused : is_used (area_of epoch) (begun book) ≡ false = area_unused book.floor epoch (begun book) near at new in
     logs_stay book epoch one two one' two' (λ used. absurd (cc)) there
-
--- ---- the areas that a stage uses
-
--- a floor that rises uses no further area
-pub used-raised : (area floor : ℕ) (book : StoredBook) → is_used area (begun (raised floor book)) ≡ true → is_used area (begun book) ≡ true
-used-raised area floor book used =
-    elim (cases_lt book.floor floor) [
-      | inl above ↦ still_used area floor (begun book) (sym (ap (λ (epochs : List ℕ). is_used area epochs) (begun-raised floor book above)) ∙ used)
-      | inr below ↦ sym (ap (λ (b : StoredBook). is_used area (begun b)) (raised_below floor book below)) ∙ used
-    ]
-
--- an epoch that begins uses its own
-pub used-begun_with : (area epoch : ℕ) (book : StoredBook) → is_used area (begun (begun_with epoch book)) ≡ true → (is_used area (begun book) ≡ true) ⊎ (area_of epoch ≡ area)
-used-begun_with area epoch book used =
-    elim (cases_Bool (has_begun epoch book)) [
-      | inl there ↦ inl (sym (ap (λ (b : StoredBook). is_used area (begun b)) (begun_before epoch book there)) ∙ used)
-      | inr new ↦
-          let later : is_used area (begun book ++ epoch ∷ []) ≡ true = sym (ap (λ (epochs : List ℕ). is_used area epochs) (begun-begun_with epoch book new)) ∙ used in
-          elim (or_cases (is_used area (begun book)) (is_used area (epoch ∷ [])) (sym (list_any-append (λ e. area_of e == area) (begun book) (epoch ∷ [])) ∙ later)) [
-            | inl before ↦ inl before
-            | inr own ↦
-                elim (or_cases (area_of epoch == area) false own) [
-                  | inl here ↦ inr (eqb-true (area_of epoch) area here)
-                  | inr nowhere ↦ absurd (cc)
-                ]
-          ]
-    ]
 
 -- ---- one step of a change
 

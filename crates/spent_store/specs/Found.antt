@@ -1,7 +1,8 @@
 -- What an opening finds on a rack before it writes, and what its writes leave: words of its private steps.
 use Rattle.std.specs.Prelude.{◌≡◌, ◌⊎◌, ℕ, ◌<◌, ◌≤◌, ◌==◌, max, Bool, true, false, List, [], ◌∷◌, ◌++◌, length, find, Option, Some, None, Ok, if◌then◌else◌}
 use Rattle.mix_base.specs.declared.shards.Shape.{Shape}
-use Rattle.replay_disk.specs.Disk.{Areas, RackState, IsImage, IsAtRest, area_at}
+use Rattle.replay_disk.specs.Disk.{Areas, RackState, IsImage, IsAtRest, area_at, contents_of}
+use Rattle.replay_disk.specs.Moments.{AtEachMoment}
 use Rattle.gate_log.specs.Log.{ReadState, WasRead, EachImage, IsClosingOf}
 use Rattle.gate_log.specs.Records.{records}
 use Rattle.spent_store.specs.Books.{StoredBook, area_of, begun, is_used}
@@ -66,6 +67,10 @@ pub record NothingNew (epochs : List ℕ) (old now : Areas) : Type 0 where
   pub images : (area : ℕ) → area < 3 → (image : List ℕ) → IsImage (area_at area now) image → IsImage (area_at area old) image
   pub others : UnusedStay epochs old now
 
+-- and so at every moment
+abbrev pub NothingNewThrough : List ℕ → RackState → RackState → Type 0
+NothingNewThrough epochs old now = AtEachMoment (NothingNew epochs old.areas) old now
+
 -- of the writes: whatever a crash leaves opens to the book, or to it with its root made
 pub record Making (shape : Shape) (limit : ℕ) (book : StoredBook) (old now : Areas) : Type 0 where
   pub opens : OpensToOneOf shape limit (as_read (book ∷ made shape book ∷ [])) now
@@ -80,6 +85,10 @@ made_records shape (first ∷ others) = first ∷ others
 pub record IsMakingOf (shape : Shape) (contents image : List ℕ) : Type 0 where
   pub found : (records 9 image ≡ records 9 contents) ⊎ (records 9 image ≡ made_records shape (records 9 contents))
   pub short : records 9 contents ≡ [] → length image ≤ max (length contents) 11
+
+-- and so at every moment, and no area but the root's changed
+abbrev pub MakingLeaves : Shape → RackState → RackState → Type 0
+MakingLeaves shape old now = AtEachMoment (EachImage 0 (IsMakingOf shape (contents_of 0 old)) old.areas) old now
 
 -- as the end of a log is closed, if there is one
 abbrev pub ClosesLog : Option ReadTagsState → Areas → Areas → Type 0

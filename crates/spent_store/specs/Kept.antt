@@ -2,13 +2,14 @@
 use Rattle.std.specs.Prelude.{◌≡◌, ℕ, ◌<◌, Bool, true, List, [], ◌∷◌, length, map}
 use Rattle.std.specs.List.{AllByRecursion}
 use Rattle.mix_base.specs.declared.shards.Shape.{Shape}
-use Rattle.replay_disk.specs.Disk.{Areas, area_at}
+use Rattle.replay_disk.specs.Disk.{Areas, RackState, area_at}
+use Rattle.replay_disk.specs.Moments.{AtEachMoment}
 use Rattle.gate_log.specs.Log.{LogState}
 use Rattle.gate_log.specs.Records.{records}
 use Rattle.spent_store.specs.Books.{EpochLog, StoredBook, area_of}
 use Rattle.spent_store.specs.Root.{AreNear}
 use Rattle.spent_store.specs.Changes.{begun_with, added}
-use Rattle.spent_store.specs.Stores.{OpensToOneOf, UnusedStay, as_read}
+use Rattle.spent_store.specs.Stores.{StoreState, OpensToOneOf, UnusedStay, as_read}
 use Rattle.spent_store.specs.TagLogs.{TagLogState, epoch_log}
 use Rattle.spent_store.specs.declared.root.RootRecord.{RootRecord}
 
@@ -47,6 +48,10 @@ beginning_stages epoch tags book = book ∷ begun_with epoch book ∷ added epoc
 pub record Leaves (shape : Shape) (limit : ℕ) (stages : List StoredBook) (epochs : List ℕ) (old now : Areas) : Type 0 where
   pub opens : OpensToOneOf shape limit (as_read stages) now
   pub others : UnusedStay epochs old now
+
+-- and so at every moment, for this store
+abbrev pub ChangeLeaves : StoreState → List StoredBook → List ℕ → RackState → RackState → Type 0
+ChangeLeaves store stages epochs old now = AtEachMoment (Leaves store.shape store.limit stages epochs old.areas) old now
 
 -- the area of an epoch has these tags
 abbrev pub HasTags : Areas → EpochLog → Type 0

@@ -1,10 +1,12 @@
 -- A store on a rack: the book that the rack's bytes say, what a crash may leave of it, and when the store stands there.
 use Rattle.std.specs.Prelude.{◌≡◌, ◌⊎◌, ⊤, ℕ, ◌<◌, Bool, true, false, List, map, Contains, length, Result, Ok, Err, if◌then◌else◌}
 use Rattle.mix_base.specs.declared.shards.Shape.{Shape}
-use Rattle.replay_disk.specs.Disk.{Areas, IsImage, area_at}
+use Rattle.replay_disk.specs.Disk.{Areas, RackState, IsImage, area_at, contents_of}
+use Rattle.replay_disk.specs.Moments.{AtEachMoment}
 use Rattle.spent_store.specs.Books.{StoredBook, area_of, has_begun, is_used, book_of}
 use Rattle.spent_store.specs.Changes.{made_where_read}
 use Rattle.spent_store.specs.Journals.{Journal, Opening, Opened, Objected, RackFailed, WantsMemory, Opens, sound_with, unsound_with, cut_off}
+use Rattle.spent_store.specs.Root.{begun_of, roots_in}
 use Rattle.spent_store.specs.Seen.{summary}
 use Rattle.spent_store.specs.TagLogs.{RestsClosed}
 use Rattle.spent_store.specs.declared.summary.Book.{Book}
@@ -32,6 +34,14 @@ pub record SameContents (old new : Areas) : Type 0 where
 abbrev pub UnusedStay : List ℕ → Areas → Areas → Type 0
 UnusedStay epochs old now = (area : ℕ) → 0 < area → area < 3 → is_used area epochs ≡ false → area_at area now ≡ area_at area old
 
+-- and so at every moment
+abbrev pub UnusedStayThrough : List ℕ → RackState → RackState → Type 0
+UnusedStayThrough epochs old now = AtEachMoment (UnusedStay epochs old.areas) old now
+
+-- the epochs that have begun by the root of a rack
+abbrev pub begun_on : RackState → List ℕ
+begun_on state = begun_of (roots_in (contents_of 0 state))
+
 -- what a crash may leave of the three areas
 pub record Left (areas : Areas) : Type 0 where
   pub root : List ℕ
@@ -56,6 +66,14 @@ IsSameOrMade shape old now = (now ≡ old) ⊎ (now ≡ made_where_read shape ol
 -- whatever a crash leaves of the areas, they might have opened to it before, or to it with its root made
 abbrev pub OpensFrom : Shape → ℕ → Areas → Areas → Type 0
 OpensFrom shape limit old now = (left : Left now) → (before : Left old) × IsSameOrMade shape (opened shape limit old before) (opened shape limit now left)
+
+-- and so at every moment
+abbrev pub OpensFromThrough : Shape → ℕ → RackState → RackState → Type 0
+OpensFromThrough shape limit old now = AtEachMoment (OpensFrom shape limit old.areas) old now
+
+-- a read gives what it gave before, or that with its root made
+abbrev pub ReadsSameOrMade : Shape → ℕ → RackState → RackState → Type 0
+ReadsSameOrMade shape limit old now = IsSameOrMade shape (book_in old.areas shape limit) (book_in now.areas shape limit)
 
 -- what contracts see of a store: its shape, how many records a log of it may have, its book, whether it is sound, and
 -- for how many claims it has room in memory
@@ -85,6 +103,18 @@ journal_of store stages = if store.is_sound then sound_with store.book else cut_
 -- these books, as areas open to them
 abbrev pub as_read : List StoredBook → List (Result StoredBook Objection)
 as_read stages = map (λ book. Ok book) stages
+
+-- what a read gives opens to one of these books, for this store
+abbrev pub ReadsOneOf : StoreState → List StoredBook → RackState → Type 0
+ReadsOneOf store stages state = Contains (as_read stages) (book_in state.areas store.shape store.limit)
+
+-- whatever a crash leaves opens to one of these books, for this store
+abbrev pub LeavesOneOf : StoreState → List StoredBook → Areas → Type 0
+LeavesOneOf store stages areas = OpensToOneOf store.shape store.limit (as_read stages) areas
+
+-- and so at every moment
+abbrev pub LeavesOneThrough : StoreState → List StoredBook → RackState → RackState → Type 0
+LeavesOneThrough store stages old now = AtEachMoment (LeavesOneOf store stages) old now
 
 -- how an opening ended, by its answer
 abbrev pub opening_of : {T : Type 0} → Result T OpenStore → Opening

@@ -19,7 +19,8 @@ pub fn has_tag(tags: &[[u8; 32]], tag: &[u8; 32]) -> bool
 
 /// How many different tags one tag more makes: none where it is among the others.
 fn added_by(tag: &[u8; 32], others: &[[u8; 32]]) -> u64
-    ensures value { result + books.distinct_count others.now ≡ books.distinct_count (tag.now ∷ others.now) }
+    ensures value { result + books.distinct_count others.now
+        ≡ books.distinct_count (tag.now ∷ others.now) }
     ensures bound { result ≤ 1 }
 {
     if has_tag(others, tag) { 0 } else { 1 }
@@ -83,9 +84,14 @@ pub struct KnownBook {
 impl Model for KnownBook {
     ghost Value = { StoredBook };
 
-    ghost view = { λ book. record { floor = book.floor; logs = book.logs.items; roots = book.roots.items } };
+    ghost view = { λ book. record {
+      floor = book.floor;
+      logs = book.logs.items;
+      roots = book.roots.items;
+    } };
 
-    ghost invariant = { λ book. AreNear book.floor (map (λ log. log.epoch) book.logs.items) × (length book.logs.items ≤ 2) };
+    ghost invariant = { λ book. AreNear book.floor (map (λ log. log.epoch) book.logs.items)
+        × (length book.logs.items ≤ 2) };
 }
 
 impl KnownBook {

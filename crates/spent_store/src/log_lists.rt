@@ -1,5 +1,7 @@
 // Logs of a store, as a list: whether an epoch has one, where it stands, and what they hold together.
-ghost use Rattle.std.specs.Prelude.{◌≡◌, ℕ, ◌+◌, ◌^◌, ◌<◌, ◌≤◌, ◌==◌, ◌&&◌, nat_le, length, map, filter, slice_index_or, Bool, true, false, OnOk, vec_len, vec_capacity, if◌then◌else◌};
+ghost use Rattle.std.specs.Prelude.{◌≡◌, ℕ, ◌+◌, ◌^◌, ◌<◌, ◌≤◌, ◌==◌, ◌&&◌, nat_le, length, map};
+ghost use Rattle.std.specs.Prelude.{filter, slice_index_or, Bool, true, false, OnOk, vec_len};
+ghost use Rattle.std.specs.Prelude.{vec_capacity, if◌then◌else◌};
 ghost use Rattle.std.specs.List.{list_any, sum_by};
 ghost use Rattle.std.specs.Str.{bytes_eq};
 ghost use Rattle.spent_store.specs.Books as books;
@@ -19,7 +21,8 @@ pub fn has_log(logs: &[TagLog], epoch: u64) -> bool
 /// How many tags the logs of an epoch have.
 pub fn tags_in(logs: &[TagLog], epoch: u64) -> u64
     requires { length logs.now ≤ 2 }
-    ensures value { result ≡ sum_by (λ log. if log.epoch == epoch then length log.tags else 0) logs.now }
+    ensures value { result ≡ sum_by (λ log.
+        if log.epoch == epoch then length log.tags else 0) logs.now }
     ensures bound { result ≤ 2 ^ 27 }
 {
     let mut count = 0;
@@ -56,7 +59,8 @@ pub fn keep_from(logs: &mut Vec<TagLog>, floor: u64)
 
 /// Whether one of these logs is the epoch's and has the tag.
 pub fn is_in(logs: &[TagLog], epoch: u64, tag: &[u8; 32]) -> bool
-    ensures { result ≡ list_any (λ log. log.epoch == epoch && list_any (λ other. bytes_eq other tag.now) log.tags) logs.now }
+    ensures { result ≡ list_any (λ log.
+        log.epoch == epoch && list_any (λ other. bytes_eq other tag.now) log.tags) logs.now }
 {
     logs.iter().any(|log| log.epoch() == epoch && log.has(tag))
 }
@@ -77,8 +81,10 @@ pub fn spent_in(logs: &[TagLog]) -> u64
 pub fn reserve_logs(logs: &mut Vec<TagLog>) -> Result<(), Memory>
     ensures same { map epoch_log logs.new.items ≡ map epoch_log logs.old.items }
     ensures capacity { vec_capacity logs.old ≤ vec_capacity logs.new }
-    ensures kept { (limit : ℕ) → (sound : Bool) → AreOfStore limit sound false logs.old.items → AreOfStore limit sound false logs.new.items }
-    ensures ready { (limit : ℕ) → (sound : Bool) → AreOfStore limit sound false logs.old.items → OnOk result (AreOfStore limit sound true logs.new.items) }
+    ensures kept { (limit : ℕ) → (sound : Bool) → AreOfStore limit sound false logs.old.items →
+        AreOfStore limit sound false logs.new.items }
+    ensures ready { (limit : ℕ) → (sound : Bool) → AreOfStore limit sound false logs.old.items →
+        OnOk result (AreOfStore limit sound true logs.new.items) }
 {
     let count = logs.len();
     'reserving: for i in 0..count {

@@ -1,6 +1,7 @@
 // The records of an area of a rack, and what they say: those of the root, or the tags of an epoch's log. A look reads them
 // as they are; an opening brings the area to the disk before.
-ghost use Rattle.std.specs.Prelude.{◌≡◌, ℕ, ◌+◌, ◌*◌, ◌^◌, ◌<◌, ◌≤◌, List, length, map, None, vec_len, IfOk, OnOk, IfErr, IsErrOf};
+ghost use Rattle.std.specs.Prelude.{◌≡◌, ℕ, ◌+◌, ◌*◌, ◌^◌, ◌<◌, ◌≤◌, List, length, map, None};
+ghost use Rattle.std.specs.Prelude.{vec_len, IfOk, OnOk, IfErr, IsErrOf};
 ghost use Rattle.std.specs.List.{concat};
 ghost use Rattle.replay_disk.specs.Disk.{contents_of, OnlyRead, Owes};
 ghost use Rattle.gate_log.specs.Log.{WasRead, ReadingLeaves, most_reads};
@@ -29,12 +30,16 @@ pub fn read_area<R: Rack, const N: usize>(
     requires some { 0 < N }
     requires size { N ≤ 63 }
     requires limit { limit ≤ 2 ^ 26 }
-    ensures records { R.tells → IfOk result (λ found. found ≡ concat (records N (contents_of area (R.state rack.old)))) }
-    ensures fits { R.tells → OnOk result (books.overfull limit area N (contents_of area (R.state rack.old)) ≡ None) }
+    ensures records { R.tells →
+        IfOk result (λ found. found ≡ concat (records N (contents_of area (R.state rack.old)))) }
+    ensures fits { R.tells →
+        OnOk result (books.overfull limit area N (contents_of area (R.state rack.old)) ≡ None) }
     ensures short { IfOk result (λ found. length found ≤ N * limit) }
-    ensures objection { R.tells → IfErr result (λ fault. Refuses fault (books.overfull limit area N (contents_of area (R.state rack.old)))) }
+    ensures objection { R.tells → IfErr result (λ fault.
+        Refuses fault (books.overfull limit area N (contents_of area (R.state rack.old)))) }
     ensures same { OnlyRead (R.state rack.old) (R.state rack.new) }
-    ensures owes { Owes (most_reads limit) (IsErrOf result OpenStore.Failed) (R.state rack.old) (R.state rack.new) }
+    ensures owes { Owes (most_reads limit) (IsErrOf result OpenStore.Failed)
+        (R.state rack.old) (R.state rack.new) }
 {
     let found = GateLog::read_records(alloc, rack, area, N, limit)?;
     if found.more {
@@ -56,16 +61,20 @@ pub fn read_log<R: Rack, const N: usize>(
     requires some { 0 < N }
     requires size { N ≤ 63 }
     requires limit { limit ≤ 2 ^ 26 }
-    ensures log { IfOk result (λ log. log ≡ record { area = area; size = N; limit = limit; count = log.count; closed = log.closed; records = log.records }) }
+    ensures log { IfOk result (λ log. log ≡ record log { area = area; size = N; limit = limit }) }
     ensures was_read { R.tells → IfOk result (λ log. WasRead log (R.state rack.new)) }
     ensures within { IfOk result (λ log. log.count ≤ limit) }
     ensures whole { IfOk result (λ log. length log.records ≡ N * log.count) }
-    ensures fits { R.tells → OnOk result (books.overfull limit area N (contents_of area (R.state rack.old)) ≡ None) }
-    ensures objection { R.tells → IfErr result (λ fault. Refuses fault (books.overfull limit area N (contents_of area (R.state rack.old)))) }
-    ensures unwritten { R.tells → contents_of area (R.state rack.new) ≡ contents_of area (R.state rack.old) }
+    ensures fits { R.tells →
+        OnOk result (books.overfull limit area N (contents_of area (R.state rack.old)) ≡ None) }
+    ensures objection { R.tells → IfErr result (λ fault.
+        Refuses fault (books.overfull limit area N (contents_of area (R.state rack.old)))) }
+    ensures unwritten { R.tells →
+        contents_of area (R.state rack.new) ≡ contents_of area (R.state rack.old) }
     ensures each_moment { R.tells → ReadingLeaves area (R.state rack.old) (R.state rack.new) }
     ensures room { R.tells → (R.state rack.new).room ≡ (R.state rack.old).room }
-    ensures owes { Owes (most_reads limit + 1) (IsErrOf result OpenStore.Failed) (R.state rack.old) (R.state rack.new) }
+    ensures owes { Owes (most_reads limit + 1) (IsErrOf result OpenStore.Failed)
+        (R.state rack.old) (R.state rack.new) }
 {
     match ReadLog::read(alloc, rack, area, N, limit) {
         Ok(log) => Ok(log),
@@ -95,12 +104,16 @@ pub fn read_roots<R: Rack>(
     limit: u64,
 ) -> Result<Vec<RootRecord>, OpenStore>
     requires limit { limit ≤ 2 ^ 26 }
-    ensures roots { R.tells → IfOk result (λ roots. roots.items ≡ roots_in (contents_of 0 (R.state rack.old))) }
-    ensures fits { R.tells → OnOk result (books.overfull limit 0 9 (contents_of 0 (R.state rack.old)) ≡ None) }
+    ensures roots { R.tells →
+        IfOk result (λ roots. roots.items ≡ roots_in (contents_of 0 (R.state rack.old))) }
+    ensures fits { R.tells →
+        OnOk result (books.overfull limit 0 9 (contents_of 0 (R.state rack.old)) ≡ None) }
     ensures short { IfOk result (λ roots. vec_len roots ≤ limit) }
-    ensures objection { R.tells → IfErr result (λ fault. Refuses fault (books.overfull limit 0 9 (contents_of 0 (R.state rack.old)))) }
+    ensures objection { R.tells → IfErr result (λ fault.
+        Refuses fault (books.overfull limit 0 9 (contents_of 0 (R.state rack.old)))) }
     ensures same { OnlyRead (R.state rack.old) (R.state rack.new) }
-    ensures owes { Owes (most_reads limit) (IsErrOf result OpenStore.Failed) (R.state rack.old) (R.state rack.new) }
+    ensures owes { Owes (most_reads limit) (IsErrOf result OpenStore.Failed)
+        (R.state rack.old) (R.state rack.new) }
 {
     let joined = read_area::<R, 9>(alloc, rack, limit, 0)?;
     let roots = roots_of(alloc, joined.as_slice())?;

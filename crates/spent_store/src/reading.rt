@@ -1,5 +1,6 @@
 // Reading a store: its book from what a rack holds, or the first thing that is against it. Nothing is written.
-ghost use Rattle.std.specs.Prelude.{◌≡◌, ℕ, ◌+◌, ◌*◌, ◌^◌, ◌≤◌, ◌<◌, ◌==◌, true, [], ◌∷◌, length, map, None, Ok, IfOk, OnOk, IfErr, IsErrOf};
+ghost use Rattle.std.specs.Prelude.{◌≡◌, ℕ, ◌+◌, ◌*◌, ◌^◌, ◌≤◌, ◌<◌, ◌==◌, true, [], ◌∷◌, length};
+ghost use Rattle.std.specs.Prelude.{map, None, Ok, IfOk, OnOk, IfErr, IsErrOf};
 ghost use Rattle.std.specs.List.{AllByRecursion, list_any, concat};
 ghost use Rattle.std.specs.Result.{result_err};
 ghost use Rattle.mix_base.specs.Shards.{IsShape};
@@ -38,12 +39,17 @@ fn read_used<R: Rack>(
 ) -> Result<Bytes, OpenStore>
     requires area { area < 3 }
     requires limit { limit ≤ 2 ^ 26 }
-    ensures records { R.tells → IfOk result (λ found. list_any (λ epoch. books.area_of epoch == area) begun.now ≡ true → found ≡ concat (records 32 (contents_of area (R.state rack.old)))) }
-    ensures fits { R.tells → OnOk result (books.overfull_log limit area (contents_of area (R.state rack.old)) begun.now ≡ None) }
+    ensures records { R.tells →
+        IfOk result (λ found. list_any (λ epoch. books.area_of epoch == area) begun.now ≡ true →
+        found ≡ concat (records 32 (contents_of area (R.state rack.old)))) }
+    ensures fits { R.tells → OnOk result
+        (books.overfull_log limit area (contents_of area (R.state rack.old)) begun.now ≡ None) }
     ensures short { IfOk result (λ found. length found ≤ 32 * limit) }
-    ensures objection { R.tells → IfErr result (λ fault. Refuses fault (books.overfull_log limit area (contents_of area (R.state rack.old)) begun.now)) }
+    ensures objection { R.tells → IfErr result (λ fault. Refuses fault
+        (books.overfull_log limit area (contents_of area (R.state rack.old)) begun.now)) }
     ensures same { OnlyRead (R.state rack.old) (R.state rack.new) }
-    ensures owes { Owes (most_reads limit) (IsErrOf result OpenStore.Failed) (R.state rack.old) (R.state rack.new) }
+    ensures owes { Owes (most_reads limit) (IsErrOf result OpenStore.Failed)
+        (R.state rack.old) (R.state rack.new) }
 {
     if is_used(area, begun) {
         read_area::<R, 32>(alloc, rack, limit, area)
@@ -89,15 +95,21 @@ fn read_logs<R: Rack>(
     begun: &[u64],
 ) -> Result<Vec<KnownLog>, OpenStore>
     requires { limit ≤ 2 ^ 26 }
-    ensures logs { R.tells → IfOk result (λ logs. logs.items ≡ map (books.log_in (contents_of 1 (R.state rack.old)) (contents_of 2 (R.state rack.old))) begun.now) }
+    ensures logs { R.tells → IfOk result (λ logs. logs.items ≡ map (books.log_in
+        (contents_of 1 (R.state rack.old)) (contents_of 2 (R.state rack.old))) begun.now) }
     ensures epochs { IfOk result (λ logs. map (λ log. log.epoch) logs.items ≡ begun.now) }
-    ensures fits { IfOk result (λ logs. AllByRecursion (λ log. length log.tags ≤ limit) logs.items) }
-    ensures first { R.tells → OnOk result (books.overfull_log limit 1 (contents_of 1 (R.state rack.old)) begun.now ≡ None) }
-    ensures second { R.tells → OnOk result (books.overfull_log limit 2 (contents_of 2 (R.state rack.old)) begun.now ≡ None) }
-    ensures objection { R.tells → IfErr result (λ fault. Refuses fault (books.first_of (books.overfull_log limit 1 (contents_of 1 (R.state rack.old)) begun.now
+    ensures fits { IfOk result (λ logs.
+        AllByRecursion (λ log. length log.tags ≤ limit) logs.items) }
+    ensures first { R.tells → OnOk result
+        (books.overfull_log limit 1 (contents_of 1 (R.state rack.old)) begun.now ≡ None) }
+    ensures second { R.tells → OnOk result
+        (books.overfull_log limit 2 (contents_of 2 (R.state rack.old)) begun.now ≡ None) }
+    ensures objection { R.tells → IfErr result (λ fault. Refuses fault
+        (books.first_of (books.overfull_log limit 1 (contents_of 1 (R.state rack.old)) begun.now
         ∷ books.overfull_log limit 2 (contents_of 2 (R.state rack.old)) begun.now ∷ []))) }
     ensures same { OnlyRead (R.state rack.old) (R.state rack.new) }
-    ensures owes { Owes (2 * most_reads limit) (IsErrOf result OpenStore.Failed) (R.state rack.old) (R.state rack.new) }
+    ensures owes { Owes (2 * most_reads limit) (IsErrOf result OpenStore.Failed)
+        (R.state rack.old) (R.state rack.new) }
 {
     let one = read_used(alloc, rack, limit, 1, begun)?;
     let two = read_used(alloc, rack, limit, 2, begun)?;
@@ -114,12 +126,15 @@ pub fn read_book<R: Rack>(
     limit: u64,
 ) -> Result<KnownBook, OpenStore>
     requires { limit ≤ 2 ^ 26 }
-    ensures book { R.tells → IfOk result (λ book. book_in (R.state rack.old).areas shape.now limit ≡ Ok book) }
+    ensures book { R.tells →
+        IfOk result (λ book. book_in (R.state rack.old).areas shape.now limit ≡ Ok book) }
     ensures fits { IfOk result (λ book. AllByRecursion (λ log. length log.tags ≤ limit) book.logs) }
     ensures few { IfOk result (λ book. length book.roots ≤ limit) }
-    ensures objection { R.tells → IfErr result (λ fault. Refuses fault (result_err (book_in (R.state rack.old).areas shape.now limit))) }
+    ensures objection { R.tells → IfErr result (λ fault.
+        Refuses fault (result_err (book_in (R.state rack.old).areas shape.now limit))) }
     ensures same { OnlyRead (R.state rack.old) (R.state rack.new) }
-    ensures owes { Owes (3 * most_reads limit + 1) (IsErrOf result OpenStore.Failed) (R.state rack.old) (R.state rack.new) }
+    ensures owes { Owes (3 * most_reads limit + 1) (IsErrOf result OpenStore.Failed)
+        (R.state rack.old) (R.state rack.new) }
 {
     let size = rack.length(0)?;
     let roots = read_roots(alloc, rack, limit)?;
@@ -139,12 +154,15 @@ pub fn look<R: Rack>(
     requires some { 2 ≤ limit }
     requires limit { limit ≤ 2 ^ 26 }
     requires shape { IsShape shape.now }
-    ensures book { R.tells → IfOk result (λ book. told (book_in (R.state rack.old).areas shape.now limit) ≡ Ok book) }
-    ensures objection { R.tells → IfErr result (λ fault. Refuses fault (result_err (book_in (R.state rack.old).areas shape.now limit))) }
+    ensures book { R.tells →
+        IfOk result (λ book. told (book_in (R.state rack.old).areas shape.now limit) ≡ Ok book) }
+    ensures objection { R.tells → IfErr result (λ fault.
+        Refuses fault (result_err (book_in (R.state rack.old).areas shape.now limit))) }
     ensures same { OnlyRead (R.state rack.old) (R.state rack.new) }
 
     // It fails only where the rack did.
-    ensures owes { Owes (3 * most_reads limit + 1) (IsErrOf result OpenStore.Failed) (R.state rack.old) (R.state rack.new) }
+    ensures owes { Owes (3 * most_reads limit + 1) (IsErrOf result OpenStore.Failed)
+        (R.state rack.old) (R.state rack.new) }
 {
     let book = read_book(alloc, rack, shape, limit)?;
     Ok(book.summary())

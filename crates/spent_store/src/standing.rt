@@ -1,5 +1,6 @@
 // What the records of a root say: the floor and the begun epochs, or the first record that can't be.
-ghost use Rattle.std.specs.Prelude.{◌≡◌, ℕ, ◌+◌, ◌*◌, ◌^◌, ◌<◌, ◌≤◌, ◌==◌, ◌||◌, Bool, List, [], ◌∷◌, length, None, IfOk, OnOk, IfErr};
+ghost use Rattle.std.specs.Prelude.{◌≡◌, ℕ, ◌+◌, ◌*◌, ◌^◌, ◌<◌, ◌≤◌, ◌==◌, ◌||◌, Bool, List, []};
+ghost use Rattle.std.specs.Prelude.{◌∷◌, length, None, IfOk, OnOk, IfErr};
 ghost use Rattle.std.specs.List.{list_any};
 ghost use Rattle.std.specs.Result.{result_err};
 ghost use Rattle.spent_store.specs.Faults.{Objects};
@@ -145,7 +146,8 @@ pub fn judge_root(
     ensures recorded { OnOk result (books.unrecorded size roots.now ≡ None) }
     ensures in_order { OnOk result (books.amiss roots.now ≡ None) }
     ensures shaped { OnOk result (books.other_shape shape.now roots.now ≡ None) }
-    ensures objection { IfErr result (λ fault. Objects fault (books.first_of (books.unrecorded size roots.now
+    ensures objection { IfErr result (λ fault.
+        Objects fault (books.first_of (books.unrecorded size roots.now
         ∷ books.amiss roots.now ∷ books.other_shape shape.now roots.now ∷ []))) }
 {
     check_recorded(size, roots)?;

@@ -114,15 +114,26 @@ fn end<R: Rack>(rack: &mut R, store: &mut SpentStore) -> Result<Option<Book>, Me
     }
 }
 
-/// The floor, and whether the tags that are 32 times 10, 11 and 12 are spent in the epochs 0, 1 and 2.
-fn found<R: Rack>(alloc: Global, rack: &mut R) -> Result<(u64, bool, bool, bool), OpenStore> {
+/// The floor, and whether the tags that are 32 times 10, 11 and 12 are spent in the epochs 0, 1 and 2; and whether the
+/// first of them is spent in epoch 2, whose log takes the area of epoch 0 again.
+#[derive(Clone, Copy)]
+struct Holding {
+    floor: u64,
+    first: bool,
+    second: bool,
+    third: bool,
+    stale: bool,
+}
+
+fn found<R: Rack>(alloc: Global, rack: &mut R) -> Result<Holding, OpenStore> {
     let store = SpentStore::open(alloc, rack, &ONE, 100)?;
-    Ok((
-        store.floor(),
-        store.holds(0, &[10; 32]),
-        store.holds(1, &[11; 32]),
-        store.holds(2, &[12; 32]),
-    ))
+    Ok(Holding {
+        floor: store.floor(),
+        first: store.holds(0, &[10; 32]),
+        second: store.holds(1, &[11; 32]),
+        third: store.holds(2, &[12; 32]),
+        stale: store.holds(2, &[10; 32]),
+    })
 }
 
 fn opens<R: Rack>(alloc: Global, rack: &mut R, shape: &Shape) -> Result<(), OpenStore>
@@ -165,7 +176,7 @@ fn retired(
     retire(alloc, rack, u64::from(limit), calls, floor)
 }
 
-fn held(alloc: Global, rack: &mut MemRack) -> Result<(u64, bool, bool, bool), OpenStore> {
+fn held(alloc: Global, rack: &mut MemRack) -> Result<Holding, OpenStore> {
     found(alloc, rack)
 }
 
@@ -298,14 +309,16 @@ fn two_epochs(alloc: Global) -> Result<MemRack, Memory> {
 }
 
 /// Whether a claim of epoch 2, which raises the floor to 1 and takes the area of epoch 0 again, keeps each accepted
-/// pair, where it is armed at a call and the rack is crashed then. From call 15 on it is done.
+/// pair and spends no other, where it is armed at a call and the rack is crashed then. From call 15 on it is done.
 fn keeps_pairs(alloc: Global, calls: u64, pick: u64) -> Result<bool, OpenStore> {
     let mut rack = two_epochs(alloc)?;
     let answer = claimed(alloc, &mut rack, 100, calls, (2, 12, 1))?;
     let done = answer == Some(Ok(()));
     rack.crash(pick);
-    let (floor, first, second, third) = held(alloc, &mut rack)?;
-    Ok(done == (calls > 14) && floor <= 1 && (first || floor == 1) && second && (third || !done))
+    let held = held(alloc, &mut rack)?;
+    let covers_first = held.first || held.floor == 1;
+    let claimed_only = done == (calls > 14) && held.floor <= 1 && !held.stale;
+    Ok(claimed_only && covers_first && held.second && (held.third || !done))
 }
 
 #[test]

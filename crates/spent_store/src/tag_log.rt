@@ -1,15 +1,18 @@
 // The log of an epoch: its area on the rack, and its tags in memory, in the order in which they were spent. Tags are
 // looked for one by one.
-ghost use Rattle.std.specs.Prelude.{◌≡◌, ◌≢◌, ℕ, ◌+◌, ◌^◌, ◌<◌, ◌≤◌, [], ◌∷◌, ◌++◌, length, true, false, IsTrue, None, vec_len, vec_capacity, IfOk, OnOk, OnErr, IfErr, IsErr, IsErrOf};
+ghost use Rattle.std.specs.Prelude.{◌≡◌, ◌≢◌, ℕ, ◌+◌, ◌^◌, ◌<◌, ◌≤◌, [], ◌∷◌, ◌++◌, length, true};
+ghost use Rattle.std.specs.Prelude.{false, IsTrue, None, vec_len, vec_capacity, IfOk, OnOk, OnErr};
+ghost use Rattle.std.specs.Prelude.{IfErr, IsErr, IsErrOf};
 ghost use Rattle.std.specs.List.{list_any};
 ghost use Rattle.std.specs.Str.{bytes_eq};
 ghost use Rattle.replay_disk.specs.Disk.{area_at, contents_of, ReadsAnImage, Owes};
-ghost use Rattle.replay_disk.specs.Moments.{AtEachMoment};
-ghost use Rattle.gate_log.specs.Log.{EachImage, IsAppendOf, ReadingLeaves, ClosingLeaves, OthersStayThrough, most_reads};
+ghost use Rattle.gate_log.specs.Log.{AppendLeavesIn, ReadingLeaves, ClosingLeaves};
+ghost use Rattle.gate_log.specs.Log.{OthersStayThrough, most_reads};
 ghost use Rattle.spent_store.specs.Faults.{Refuses};
 ghost use Rattle.spent_store.specs.Books as books;
 ghost use Rattle.spent_store.specs.Books.{EpochLog, area_of};
-ghost use Rattle.spent_store.specs.TagLogs.{TagLogState, LogStands, ReadTagsState, TagsWereRead, epoch_log};
+ghost use Rattle.spent_store.specs.TagLogs.{TagLogState, LogStands, ReadTagsState, TagsWereRead};
+ghost use Rattle.spent_store.specs.TagLogs.{epoch_log};
 
 use crate::faults::OpenStore;
 use crate::known::{distinct_count, has_tag};
@@ -45,7 +48,8 @@ impl Model for ReadTags {
 
     ghost view = { λ l. record { epoch = l.epoch; tags = l.tags.items; log = l.log } };
 
-    ghost invariant = { λ l. (l.log.area ≡ area_of l.epoch) × (l.log.size ≡ 32) × (l.log.count ≡ vec_len l.tags) × (l.log.limit ≤ 2 ^ 26) × (l.log.count ≤ l.log.limit) };
+    ghost invariant = { λ l. (l.log.area ≡ area_of l.epoch) × (l.log.size ≡ 32)
+        × (l.log.count ≡ vec_len l.tags) × (l.log.limit ≤ 2 ^ 26) × (l.log.count ≤ l.log.limit) };
 }
 
 impl ReadTags {
@@ -61,12 +65,18 @@ impl ReadTags {
         ensures epoch { IfOk result (λ read. read.epoch ≡ epoch) }
         ensures limit { IfOk result (λ read. read.log.limit ≡ limit) }
         ensures were_read { R.tells → IfOk result (λ read. TagsWereRead read (R.state rack.new)) }
-        ensures fits { R.tells → OnOk result (books.overfull limit (area_of epoch) 32 (contents_of (area_of epoch) (R.state rack.old)) ≡ None) }
-        ensures objection { R.tells → IfErr result (λ fault. Refuses fault (books.overfull limit (area_of epoch) 32 (contents_of (area_of epoch) (R.state rack.old)))) }
-        ensures unwritten { R.tells → contents_of (area_of epoch) (R.state rack.new) ≡ contents_of (area_of epoch) (R.state rack.old) }
-        ensures each_moment { R.tells → ReadingLeaves (area_of epoch) (R.state rack.old) (R.state rack.new) }
+        ensures fits { R.tells → OnOk result (books.overfull limit (area_of epoch) 32
+            (contents_of (area_of epoch) (R.state rack.old)) ≡ None) }
+        ensures objection { R.tells → IfErr result (λ fault. Refuses fault
+            (books.overfull limit (area_of epoch) 32
+            (contents_of (area_of epoch) (R.state rack.old)))) }
+        ensures unwritten { R.tells → contents_of (area_of epoch) (R.state rack.new)
+            ≡ contents_of (area_of epoch) (R.state rack.old) }
+        ensures each_moment { R.tells →
+            ReadingLeaves (area_of epoch) (R.state rack.old) (R.state rack.new) }
         ensures room { R.tells → (R.state rack.new).room ≡ (R.state rack.old).room }
-        ensures owes { Owes (most_reads limit + 1) (IsErrOf result OpenStore.Failed) (R.state rack.old) (R.state rack.new) }
+        ensures owes { Owes (most_reads limit + 1) (IsErrOf result OpenStore.Failed)
+            (R.state rack.old) (R.state rack.new) }
     {
         let log = read_log::<R, 32>(alloc, rack, limit, area_of_epoch(epoch))?;
         let tags = tags_of(alloc, log.records())?;
@@ -78,9 +88,16 @@ impl ReadTags {
     pub fn close<R: Rack>(self, rack: &mut R) -> Result<TagLog, Failed>
         requires were_read { R.tells → TagsWereRead self (R.state rack.old) }
         requires room { R.tells → 1 ≤ (R.state rack.old).room }
-        ensures log { IfOk result (λ log. log ≡ record { epoch = self.epoch; tags = self.tags; limit = self.log.limit; is_sound = true; spare = log.spare }) }
+        ensures log { IfOk result (λ log. log ≡ record {
+          epoch = self.epoch;
+          tags = self.tags;
+          limit = self.log.limit;
+          is_sound = true;
+          spare = log.spare;
+        }) }
         ensures stands { R.tells → IfOk result (λ log. LogStands log (R.state rack.new).areas) }
-        ensures each_moment { R.tells → ClosingLeaves (area_of self.epoch) 32 (R.state rack.old) (R.state rack.new) }
+        ensures each_moment { R.tells →
+            ClosingLeaves (area_of self.epoch) 32 (R.state rack.old) (R.state rack.new) }
         ensures image { R.tells → ReadsAnImage (R.state rack.new).areas (area_of self.epoch) }
         ensures room { R.tells → (R.state rack.old).room ≤ (R.state rack.new).room + 1 }
         ensures owes { Owes 2 (IsErr result) (R.state rack.old) (R.state rack.new) }
@@ -113,9 +130,16 @@ impl Model for TagLog {
 
     ghost Value = { TagLogState };
 
-    ghost view = { λ l. record { epoch = l.epoch; tags = l.tags.items; limit = l.log.limit; is_sound = l.log.sound; spare = vec_capacity l.tags - vec_len l.tags } };
+    ghost view = { λ l. record {
+      epoch = l.epoch;
+      tags = l.tags.items;
+      limit = l.log.limit;
+      is_sound = l.log.sound;
+      spare = vec_capacity l.tags - vec_len l.tags;
+    } };
 
-    ghost invariant = { λ l. (l.log.area ≡ area_of l.epoch) × (l.log.size ≡ 32) × (l.log.count ≡ vec_len l.tags) × (l.log.limit ≤ 2 ^ 26) × (l.log.count ≤ l.log.limit) };
+    ghost invariant = { λ l. (l.log.area ≡ area_of l.epoch) × (l.log.size ≡ 32)
+        × (l.log.count ≡ vec_len l.tags) × (l.log.limit ≤ 2 ^ 26) × (l.log.count ≤ l.log.limit) };
 }
 
 impl TagLog {
@@ -130,9 +154,16 @@ impl TagLog {
         requires limit { limit ≤ 2 ^ 26 }
         requires empty { tags.items ≡ [] }
         requires room { R.tells → 1 ≤ (R.state rack.old).room }
-        ensures log { IfOk result (λ log. log ≡ record { epoch = epoch; tags = []; limit = limit; is_sound = true; spare = vec_capacity tags }) }
+        ensures log { IfOk result (λ log. log ≡ record {
+          epoch = epoch;
+          tags = [];
+          limit = limit;
+          is_sound = true;
+          spare = vec_capacity tags;
+        }) }
         ensures stands { R.tells → IfOk result (λ log. LogStands log (R.state rack.new).areas) }
-        ensures others { R.tells → OthersStayThrough (area_of epoch) (R.state rack.old) (R.state rack.new) }
+        ensures others { R.tells →
+            OthersStayThrough (area_of epoch) (R.state rack.old) (R.state rack.new) }
         ensures room { R.tells → (R.state rack.old).room ≤ (R.state rack.new).room + 1 }
         ensures owes { Owes 2 (IsErr result) (R.state rack.old) (R.state rack.new) }
     {
@@ -148,9 +179,11 @@ impl TagLog {
         requires spare { 0 < self.old.spare }
         requires stands { R.tells → LogStands self.old (R.state rack.old).areas }
         requires room { R.tells → 34 ≤ (R.state rack.old).room }
-        ensures ok { OnOk result (self.new ≡ record self.old { tags = self.old.tags ++ tag.now ∷ []; spare = self.new.spare }) }
+        ensures ok { OnOk result (self.new
+            ≡ record self.old { tags = self.old.tags ++ tag.now ∷ []; spare = self.new.spare }) }
         ensures stands { R.tells → OnOk result (LogStands self.new (R.state rack.new).areas) }
-        ensures each_moment { R.tells → AtEachMoment (EachImage (area_of self.old.epoch) (IsAppendOf 32 (tag.now ∷ []) (contents_of (area_of self.old.epoch) (R.state rack.old))) (R.state rack.old).areas) (R.state rack.old) (R.state rack.new) }
+        ensures each_moment { R.tells → AppendLeavesIn (area_of self.old.epoch) 32 (tag.now ∷ [])
+            (R.state rack.old) (R.state rack.new) }
         ensures image { R.tells → ReadsAnImage (R.state rack.new).areas (area_of self.old.epoch) }
         ensures room { R.tells → (R.state rack.old).room ≤ (R.state rack.new).room + 34 }
         ensures failed { OnErr result (self.new ≡ record self.old { is_sound = false }) }

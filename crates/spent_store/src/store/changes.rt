@@ -1,16 +1,18 @@
 // The steps of a store's changes, each with what a crash leaves of it at its every moment: the floor is raised, an
 // epoch's log is started and the epoch begins, and tags are spent.
-ghost use Rattle.std.specs.Prelude.{◌≡◌, ℕ, ◌+◌, ◌^◌, ◌<◌, ◌≤◌, ◌==◌, List, [], ◌∷◌, ◌++◌, length, filter, true, false, IsTrue, Contains, IfOk, OnOk, OnErr, IsOk, IsErr, vec_capacity, None, if◌then◌else◌};
+ghost use Rattle.std.specs.Prelude.{◌≡◌, ℕ, ◌+◌, ◌^◌, ◌<◌, ◌≤◌, ◌==◌, List, [], ◌∷◌, ◌++◌, length};
+ghost use Rattle.std.specs.Prelude.{filter, true, false, IsTrue, Contains, IfOk, OnOk, OnErr, IsOk};
+ghost use Rattle.std.specs.Prelude.{IsErr, vec_capacity, None, if◌then◌else◌};
 ghost use Rattle.replay_disk.specs.Disk.{contents_of, ReadsAnImage, MadeNoCall, Owes};
-ghost use Rattle.replay_disk.specs.Moments.{AtEachMoment};
-ghost use Rattle.gate_log.specs.Log.{EachImage, IsAppendOf, OthersStayThrough};
+ghost use Rattle.gate_log.specs.Log.{AppendLeavesIn, OthersStayThrough};
 ghost use Rattle.gate_log.specs.Records.{records};
 ghost use Rattle.spent_store.specs.Books.{area_of, has_begun, pairs};
-ghost use Rattle.spent_store.specs.Changes.{raised, begun_with, added, claimed, claim_stages, retirement_stages};
+ghost use Rattle.spent_store.specs.Changes.{raised, begun_with, added, claimed, claim_stages};
+ghost use Rattle.spent_store.specs.Changes.{retirement_stages};
 ghost use Rattle.spent_store.specs.Journals.{claim_refusal, is_full};
-ghost use Rattle.spent_store.specs.Kept.{Leaves, beginning_stages};
+ghost use Rattle.spent_store.specs.Kept.{ChangeLeaves, beginning_stages};
 ghost use Rattle.spent_store.specs.Root.{IsNear, spell_root};
-ghost use Rattle.spent_store.specs.Stores.{Stands, as_read, book_in};
+ghost use Rattle.spent_store.specs.Stores.{Stands, ReadsOneOf};
 ghost use Rattle.spent_store.specs.TagLogs.{LogStands, RestsClosed};
 
 use super::SpentStore;
@@ -66,11 +68,18 @@ impl SpentStore {
         requires accepted { claim_refusal self.old.limit epoch tag.now least self.old.book ≡ None }
         requires stands { R.tells → Stands self.old (R.state rack.old).areas }
         requires room { R.tells → 57 ≤ (R.state rack.old).room }
-        ensures ok { OnOk result (self.new ≡ record self.old { book = claimed epoch (tag.now ∷ []) least self.old.book; spare = 0 }) }
-        ensures failed { OnErr result (self.new ≡ record self.old { book = self.new.book; is_sound = false; spare = self.new.spare }) }
+        ensures ok { OnOk result (self.new ≡ record self.old {
+          book = claimed epoch (tag.now ∷ []) least self.old.book;
+          spare = 0;
+        }) }
+        ensures failed { OnErr result (self.new
+            ≡ record self.old { book = self.new.book; is_sound = false; spare = self.new.spare }) }
         ensures stands { R.tells → OnOk result (Stands self.new (R.state rack.new).areas) }
-        ensures each_moment { R.tells → AtEachMoment (Leaves self.old.shape self.old.limit (claim_stages epoch (tag.now ∷ []) least self.old.book) (epoch ∷ []) (R.state rack.old).areas) (R.state rack.old) (R.state rack.new) }
-        ensures reads { R.tells → OnErr result (Contains (as_read (claim_stages epoch (tag.now ∷ []) least self.old.book)) (book_in (R.state rack.new).areas self.old.shape self.old.limit)) }
+        ensures each_moment { R.tells → ChangeLeaves self.old
+            (claim_stages epoch (tag.now ∷ []) least self.old.book) (epoch ∷ [])
+            (R.state rack.old) (R.state rack.new) }
+        ensures reads { R.tells → OnErr result (ReadsOneOf self.old
+            (claim_stages epoch (tag.now ∷ []) least self.old.book) (R.state rack.new)) }
         ensures room { R.tells → (R.state rack.old).room ≤ (R.state rack.new).room + 57 }
         ensures owes { Owes 14 (IsErr result) (R.state rack.old) (R.state rack.new) }
     {
@@ -89,12 +98,16 @@ impl SpentStore {
         requires fits { self.old.book.floor < floor → length self.old.book.roots < self.old.limit }
         requires stands { R.tells → Stands self.old (R.state rack.old).areas }
         requires room { R.tells → 11 ≤ (R.state rack.old).room }
-        ensures ok { OnOk result (self.new ≡ record self.old { book = raised floor self.old.book }) }
+        ensures ok { OnOk result
+            (self.new ≡ record self.old { book = raised floor self.old.book }) }
         ensures failed { OnErr result (self.new ≡ record self.old { is_sound = false }) }
         ensures stands { R.tells → OnOk result (Stands self.new (R.state rack.new).areas) }
-        ensures each_moment { R.tells → (epochs : List ℕ) → AtEachMoment (Leaves self.old.shape self.old.limit (retirement_stages floor self.old.book) epochs (R.state rack.old).areas) (R.state rack.old) (R.state rack.new) }
-        ensures reads { R.tells → OnErr result (Contains (as_read (retirement_stages floor self.old.book)) (book_in (R.state rack.new).areas self.old.shape self.old.limit)) }
-        ensures nothing { floor ≤ self.old.book.floor → IsOk result × (self.new ≡ self.old) × MadeNoCall (R.state rack.old) (R.state rack.new) }
+        ensures each_moment { R.tells → (epochs : List ℕ) → ChangeLeaves self.old
+            (retirement_stages floor self.old.book) epochs (R.state rack.old) (R.state rack.new) }
+        ensures reads { R.tells → OnErr result
+            (ReadsOneOf self.old (retirement_stages floor self.old.book) (R.state rack.new)) }
+        ensures nothing { floor ≤ self.old.book.floor →
+            IsOk result × (self.new ≡ self.old) × MadeNoCall (R.state rack.old) (R.state rack.new) }
         ensures room { R.tells → (R.state rack.old).room ≤ (R.state rack.new).room + 11 }
         ensures owes { Owes 4 (IsErr result) (R.state rack.old) (R.state rack.new) }
     {
@@ -111,12 +124,19 @@ impl SpentStore {
     fn start_log<R: Rack>(&mut self, rack: &mut R, epoch: u64) -> Result<TagLog, Failed>
         requires spare { 1 ≤ self.old.spare }
         requires room { R.tells → 1 ≤ (R.state rack.old).room }
-        ensures log { IfOk result (λ log. log ≡ record { epoch = epoch; tags = []; limit = self.old.limit; is_sound = true; spare = log.spare }) }
+        ensures log { IfOk result (λ log. log ≡ record {
+          epoch = epoch;
+          tags = [];
+          limit = self.old.limit;
+          is_sound = true;
+          spare = log.spare;
+        }) }
         ensures log_room { IfOk result (λ log. 0 < log.spare) }
         ensures log_stands { R.tells → IfOk result (λ log. LogStands log (R.state rack.new).areas) }
         ensures ok { OnOk result (self.new ≡ record self.old { spare = 0 }) }
         ensures failed { OnErr result (self.new ≡ record self.old { is_sound = false; spare = 0 }) }
-        ensures others { R.tells → OthersStayThrough (area_of epoch) (R.state rack.old) (R.state rack.new) }
+        ensures others { R.tells →
+            OthersStayThrough (area_of epoch) (R.state rack.old) (R.state rack.new) }
         ensures room { R.tells → (R.state rack.old).room ≤ (R.state rack.new).room + 1 }
         ensures owes { Owes 2 (IsErr result) (R.state rack.old) (R.state rack.new) }
     {
@@ -133,7 +153,13 @@ impl SpentStore {
     /// Begins an epoch whose log was started, and spends its first tag.
     fn begin<R: Rack>(&mut self, rack: &mut R, log: TagLog, tag: &[u8; 32]) -> Result<(), Failed>
         requires sound { IsTrue self.old.is_sound }
-        requires log { log ≡ record { epoch = log.epoch; tags = []; limit = self.old.limit; is_sound = true; spare = log.spare } }
+        requires log { log ≡ record {
+          epoch = log.epoch;
+          tags = [];
+          limit = self.old.limit;
+          is_sound = true;
+          spare = log.spare;
+        } }
         requires log_room { 0 < log.spare }
         requires spare { self.old.spare ≡ 0 }
         requires new { has_begun log.epoch self.old.book ≡ false }
@@ -142,11 +168,17 @@ impl SpentStore {
         requires stands { R.tells → Stands self.old (R.state rack.old).areas }
         requires log_stands { R.tells → LogStands log (R.state rack.old).areas }
         requires room { R.tells → 45 ≤ (R.state rack.old).room }
-        ensures ok { OnOk result (self.new ≡ record self.old { book = added log.epoch (tag.now ∷ []) (begun_with log.epoch self.old.book) }) }
-        ensures failed { OnErr result (self.new ≡ record self.old { book = self.new.book; is_sound = false }) }
+        ensures ok { OnOk result (self.new ≡ record self.old {
+          book = added log.epoch (tag.now ∷ []) (begun_with log.epoch self.old.book);
+        }) }
+        ensures failed { OnErr result
+            (self.new ≡ record self.old { book = self.new.book; is_sound = false }) }
         ensures stands { R.tells → OnOk result (Stands self.new (R.state rack.new).areas) }
-        ensures each_moment { R.tells → AtEachMoment (Leaves self.old.shape self.old.limit (beginning_stages log.epoch (tag.now ∷ []) self.old.book) (log.epoch ∷ []) (R.state rack.old).areas) (R.state rack.old) (R.state rack.new) }
-        ensures reads { R.tells → OnErr result (Contains (as_read (beginning_stages log.epoch (tag.now ∷ []) self.old.book)) (book_in (R.state rack.new).areas self.old.shape self.old.limit)) }
+        ensures each_moment { R.tells → ChangeLeaves self.old
+            (beginning_stages log.epoch (tag.now ∷ []) self.old.book) (log.epoch ∷ [])
+            (R.state rack.old) (R.state rack.new) }
+        ensures reads { R.tells → OnErr result (ReadsOneOf self.old
+            (beginning_stages log.epoch (tag.now ∷ []) self.old.book) (R.state rack.new)) }
         ensures room { R.tells → (R.state rack.old).room ≤ (R.state rack.new).room + 45 }
         ensures owes { Owes 8 (IsErr result) (R.state rack.old) (R.state rack.new) }
     {
@@ -169,14 +201,20 @@ impl SpentStore {
         requires sound { IsTrue self.old.is_sound }
         requires spare { 1 ≤ self.old.spare }
         requires there { has_begun epoch self.old.book ≡ true }
-        requires fits { length (filter (λ pair. pair.0 == epoch) (pairs self.old.book)) < self.old.limit }
+        requires fits { length (filter (λ pair. pair.0 == epoch) (pairs self.old.book))
+            < self.old.limit }
         requires stands { R.tells → Stands self.old (R.state rack.old).areas }
         requires room { R.tells → 34 ≤ (R.state rack.old).room }
-        ensures ok { OnOk result (self.new ≡ record self.old { book = added epoch (tag.now ∷ []) self.old.book; spare = 0 }) }
-        ensures failed { OnErr result (self.new ≡ record self.old { is_sound = false; spare = self.new.spare }) }
+        ensures ok { OnOk result (self.new
+            ≡ record self.old { book = added epoch (tag.now ∷ []) self.old.book; spare = 0 }) }
+        ensures failed { OnErr result
+            (self.new ≡ record self.old { is_sound = false; spare = self.new.spare }) }
         ensures stands { R.tells → OnOk result (Stands self.new (R.state rack.new).areas) }
-        ensures each_moment { R.tells → AtEachMoment (Leaves self.old.shape self.old.limit (self.old.book ∷ added epoch (tag.now ∷ []) self.old.book ∷ []) (epoch ∷ []) (R.state rack.old).areas) (R.state rack.old) (R.state rack.new) }
-        ensures reads { R.tells → OnErr result (Contains (as_read (self.old.book ∷ added epoch (tag.now ∷ []) self.old.book ∷ [])) (book_in (R.state rack.new).areas self.old.shape self.old.limit)) }
+        ensures each_moment { R.tells → ChangeLeaves self.old
+            (self.old.book ∷ added epoch (tag.now ∷ []) self.old.book ∷ []) (epoch ∷ [])
+            (R.state rack.old) (R.state rack.new) }
+        ensures reads { R.tells → OnErr result (ReadsOneOf self.old
+            (self.old.book ∷ added epoch (tag.now ∷ []) self.old.book ∷ []) (R.state rack.new)) }
         ensures room { R.tells → (R.state rack.old).room ≤ (R.state rack.new).room + 34 }
         ensures owes { Owes 4 (IsErr result) (R.state rack.old) (R.state rack.new) }
     {
@@ -197,11 +235,14 @@ impl SpentStore {
         requires fits { length self.old.book.roots < self.old.limit }
         requires stands { R.tells → Stands self.old (R.state rack.old).areas }
         requires room { R.tells → 11 ≤ (R.state rack.old).room }
-        ensures ok { OnOk result (self.new ≡ record self.old { book = record self.old.book { roots = self.old.book.roots ++ root.now ∷ [] } }) }
+        ensures ok { OnOk result (self.new ≡ record self.old
+            { book = record self.old.book { roots = self.old.book.roots ++ root.now ∷ [] } }) }
         ensures failed { OnErr result (self.new ≡ record self.old { is_sound = false }) }
         ensures rest { R.tells → OnOk result (RestsClosed 9 0 (R.state rack.new).areas) }
-        ensures records { R.tells → OnOk result (records 9 (contents_of 0 (R.state rack.new)) ≡ records 9 (contents_of 0 (R.state rack.old)) ++ spell_root root.now ∷ []) }
-        ensures each_moment { R.tells → AtEachMoment (EachImage 0 (IsAppendOf 9 (spell_root root.now ∷ []) (contents_of 0 (R.state rack.old))) (R.state rack.old).areas) (R.state rack.old) (R.state rack.new) }
+        ensures records { R.tells → OnOk result (records 9 (contents_of 0 (R.state rack.new))
+            ≡ records 9 (contents_of 0 (R.state rack.old)) ++ spell_root root.now ∷ []) }
+        ensures each_moment { R.tells →
+            AppendLeavesIn 0 9 (spell_root root.now ∷ []) (R.state rack.old) (R.state rack.new) }
         ensures image { R.tells → ReadsAnImage (R.state rack.new).areas 0 }
         ensures room { R.tells → (R.state rack.old).room ≤ (R.state rack.new).room + 11 }
         ensures owes { Owes 4 (IsErr result) (R.state rack.old) (R.state rack.new) }

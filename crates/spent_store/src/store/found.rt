@@ -1,22 +1,25 @@
 // A store that was found on a rack: all that an opening reads, judges and takes memory for, before it writes a byte; and
 // the writes that make a store of it, which take no memory.
-ghost use Rattle.std.specs.Prelude.{◌≡◌, ℕ, ◌+◌, ◌*◌, ◌^◌, ◌<◌, ◌≤◌, ◌==◌, max, [], ◌∷◌, ◌++◌, length, map, true, Some, None, Ok, Contains, IfOk, OnOk, OnErr, IfErr, IsErr, IsErrOf, vec_len, vec_capacity};
+ghost use Rattle.std.specs.Prelude.{◌≡◌, ℕ, ◌+◌, ◌*◌, ◌^◌, ◌<◌, ◌≤◌, ◌==◌, max, [], ◌∷◌, ◌++◌};
+ghost use Rattle.std.specs.Prelude.{length, map, true, Some, None, Ok, Contains, IfOk, OnOk, OnErr};
+ghost use Rattle.std.specs.Prelude.{IfErr, IsErr, IsErrOf, vec_len, vec_capacity};
 ghost use Rattle.std.specs.Option.{option_map};
 ghost use Rattle.std.specs.Result.{result_err};
 ghost use Rattle.mix_base.specs.Shards.{IsShape};
 ghost use Rattle.replay_disk.specs.Disk.{contents_of, ContentsAreImages, ReadsAnImage, Owes};
 ghost use Rattle.replay_disk.specs.Moments.{AtEachMoment};
 ghost use Rattle.gate_log.specs.Log as gate;
-ghost use Rattle.gate_log.specs.Log.{EachImage, OthersStay, WasRead, most_reads};
+ghost use Rattle.gate_log.specs.Log.{sound_log, OthersStay, WasRead, most_reads};
 ghost use Rattle.gate_log.specs.Records.{records};
 ghost use Rattle.spent_store.specs.Faults.{Refuses};
 ghost use Rattle.spent_store.specs.Books as books;
 ghost use Rattle.spent_store.specs.Books.{area_of};
 ghost use Rattle.spent_store.specs.Changes as changes;
 ghost use Rattle.spent_store.specs.Changes.{made};
-ghost use Rattle.spent_store.specs.Found.{IsFound, NothingNew, Making, Rests, IsMakingOf, IsInArea, IfRead, IfClosed, IfStands, ClosesLog, made_records, listed, in_order, epoch_in, begins_in_two};
-ghost use Rattle.spent_store.specs.Root.{begun_of, roots_in};
-ghost use Rattle.spent_store.specs.Stores.{SameContents, Stands, as_read, book_in};
+ghost use Rattle.spent_store.specs.Found.{IsFound, NothingNewThrough, Making, MakingLeaves, Rests};
+ghost use Rattle.spent_store.specs.Found.{IsInArea, IfRead, IfClosed, IfStands, ClosesLog};
+ghost use Rattle.spent_store.specs.Found.{made_records, listed, in_order, epoch_in, begins_in_two};
+ghost use Rattle.spent_store.specs.Stores.{SameContents, Stands, as_read, begun_on, book_in};
 ghost use Rattle.spent_store.specs.TagLogs.{ReadTagsState, epoch_log, read_log};
 
 use super::SpentStore;
@@ -57,7 +60,11 @@ impl Model for FoundStore {
     ghost view = { λ s. record {
       shape = s.shape;
       limit = s.limit;
-      book = record { floor = s.floor; logs = map read_log (in_order s.second_first s.one s.two); roots = s.roots.items };
+      book = record {
+        floor = s.floor;
+        logs = map read_log (in_order s.second_first s.one s.two);
+        roots = s.roots.items;
+      };
       root = s.root;
       one = s.one;
       two = s.two;
@@ -89,13 +96,18 @@ impl FoundStore {
         requires limit { limit ≤ 2 ^ 26 }
         ensures asked { IfOk result (λ found. (found.shape ≡ shape.now) × (found.limit ≡ limit)) }
         ensures found { R.tells → IfOk result (λ found. IsFound found (R.state rack.new)) }
-        ensures book { R.tells → IfOk result (λ found. book_in (R.state rack.old).areas shape.now limit ≡ Ok found.book) }
+        ensures book { R.tells → IfOk result (λ found.
+            book_in (R.state rack.old).areas shape.now limit ≡ Ok found.book) }
         ensures room { R.tells → OnOk result (14 ≤ (R.state rack.new).room) }
-        ensures objection { R.tells → IfErr result (λ fault. Refuses fault (result_err (book_in (R.state rack.old).areas shape.now limit))) }
-        ensures unwritten { R.tells → SameContents (R.state rack.old).areas (R.state rack.new).areas }
-        ensures each_moment { R.tells → AtEachMoment (NothingNew (begun_of (roots_in (contents_of 0 (R.state rack.old)))) (R.state rack.old).areas) (R.state rack.old) (R.state rack.new) }
+        ensures objection { R.tells → IfErr result (λ fault.
+            Refuses fault (result_err (book_in (R.state rack.old).areas shape.now limit))) }
+        ensures unwritten { R.tells →
+            SameContents (R.state rack.old).areas (R.state rack.new).areas }
+        ensures each_moment { R.tells →
+            NothingNewThrough (begun_on (R.state rack.old)) (R.state rack.old) (R.state rack.new) }
         ensures images { R.tells → ContentsAreImages (R.state rack.old).areas }
-        ensures owes { Owes (3 * most_reads limit + 4) (IsErrOf result OpenStore.Failed) (R.state rack.old) (R.state rack.new) }
+        ensures owes { Owes (3 * most_reads limit + 4) (IsErrOf result OpenStore.Failed)
+            (R.state rack.old) (R.state rack.new) }
     {
         let size = rack.length(0)?;
         let root = read_log::<R, 9>(alloc, rack, limit, 0)?;
@@ -124,11 +136,21 @@ impl FoundStore {
         requires shape { IsShape self.shape }
         requires found { R.tells → IsFound self (R.state rack.old) }
         requires room { R.tells → 14 ≤ (R.state rack.old).room }
-        ensures store { IfOk result (λ store. store ≡ record { shape = self.shape; limit = self.limit; book = made self.shape self.book; is_sound = true; spare = 0 }) }
+        ensures store { IfOk result (λ store. store ≡ record {
+          shape = self.shape;
+          limit = self.limit;
+          book = made self.shape self.book;
+          is_sound = true;
+          spare = 0;
+        }) }
         ensures stands { R.tells → IfOk result (λ store. Stands store (R.state rack.new).areas) }
         ensures rests { R.tells → Rests self.shape self.limit self.book (R.state rack.old).areas }
-        ensures each_moment { R.tells → AtEachMoment (Making self.shape self.limit self.book (R.state rack.old).areas) (R.state rack.old) (R.state rack.new) }
-        ensures reads { R.tells → OnErr result (Contains (as_read (self.book ∷ made self.shape self.book ∷ [])) (book_in (R.state rack.new).areas self.shape self.limit)) }
+        ensures each_moment { R.tells → AtEachMoment
+            (Making self.shape self.limit self.book (R.state rack.old).areas)
+            (R.state rack.old) (R.state rack.new) }
+        ensures reads { R.tells → OnErr result (Contains
+            (as_read (self.book ∷ made self.shape self.book ∷ []))
+            (book_in (R.state rack.new).areas self.shape self.limit)) }
         ensures owes { Owes 10 (IsErr result) (R.state rack.old) (R.state rack.new) }
     {
         let FoundStore {
@@ -214,15 +236,20 @@ fn read_epoch<R: Rack>(
 ) -> Result<Option<ReadTags>, OpenStore>
     requires area { area < 3 }
     requires limit { limit ≤ 2 ^ 26 }
-    ensures epoch { IfOk result (λ found. option_map (λ read. read.epoch) found ≡ epoch_in area begun.now) }
+    ensures epoch { IfOk result (λ found.
+        option_map (λ read. read.epoch) found ≡ epoch_in area begun.now) }
     ensures in_area { IfOk result (IsInArea area limit) }
     ensures read { R.tells → IfOk result (λ found. IfRead found (R.state rack.new)) }
-    ensures fits { R.tells → OnOk result (books.overfull_log limit area (contents_of area (R.state rack.old)) begun.now ≡ None) }
-    ensures objection { R.tells → IfErr result (λ fault. Refuses fault (books.overfull_log limit area (contents_of area (R.state rack.old)) begun.now)) }
+    ensures fits { R.tells → OnOk result
+        (books.overfull_log limit area (contents_of area (R.state rack.old)) begun.now ≡ None) }
+    ensures objection { R.tells → IfErr result (λ fault. Refuses fault
+        (books.overfull_log limit area (contents_of area (R.state rack.old)) begun.now)) }
     ensures unwritten { R.tells → SameContents (R.state rack.old).areas (R.state rack.new).areas }
-    ensures each_moment { R.tells → AtEachMoment (NothingNew begun.now (R.state rack.old).areas) (R.state rack.old) (R.state rack.new) }
+    ensures each_moment { R.tells →
+        NothingNewThrough begun.now (R.state rack.old) (R.state rack.new) }
     ensures others { R.tells → OthersStay area (R.state rack.old).areas (R.state rack.new).areas }
-    ensures owes { Owes (most_reads limit + 1) (IsErrOf result OpenStore.Failed) (R.state rack.old) (R.state rack.new) }
+    ensures owes { Owes (most_reads limit + 1) (IsErrOf result OpenStore.Failed)
+        (R.state rack.old) (R.state rack.new) }
 {
     match epoch_of_area(begun, area) {
         Some(epoch) => {
@@ -240,10 +267,11 @@ fn close_root<R: Rack>(rack: &mut R, root: ReadLog, shape: &Shape) -> Result<Gat
     requires some { 0 < root.limit }
     requires read { R.tells → WasRead root (R.state rack.old) }
     requires room { R.tells → 12 ≤ (R.state rack.old).room }
-    ensures log { IfOk result (λ log. log ≡ record { area = 0; size = 9; limit = root.limit; count = max root.count 1; sound = true }) }
+    ensures log { IfOk result (λ log. log ≡ sound_log 0 9 root.limit (max root.count 1)) }
     ensures stands { R.tells → IfOk result (λ log. gate.Stands log (R.state rack.new)) }
-    ensures records { R.tells → OnOk result (records 9 (contents_of 0 (R.state rack.new)) ≡ made_records shape.now (records 9 (contents_of 0 (R.state rack.old)))) }
-    ensures each_moment { R.tells → AtEachMoment (EachImage 0 (IsMakingOf shape.now (contents_of 0 (R.state rack.old))) (R.state rack.old).areas) (R.state rack.old) (R.state rack.new) }
+    ensures records { R.tells → OnOk result (records 9 (contents_of 0 (R.state rack.new))
+        ≡ made_records shape.now (records 9 (contents_of 0 (R.state rack.old)))) }
+    ensures each_moment { R.tells → MakingLeaves shape.now (R.state rack.old) (R.state rack.new) }
     ensures image { R.tells → ReadsAnImage (R.state rack.new).areas 0 }
     ensures room { R.tells → (R.state rack.old).room ≤ (R.state rack.new).room + 12 }
     ensures owes { Owes 6 (IsErr result) (R.state rack.old) (R.state rack.new) }
@@ -264,10 +292,11 @@ fn make_root<R: Rack>(rack: &mut R, root: ReadLog, shape: &Shape) -> Result<Gate
     requires some { 0 < root.limit }
     requires read { R.tells → WasRead root (R.state rack.old) }
     requires room { R.tells → 12 ≤ (R.state rack.old).room }
-    ensures log { IfOk result (λ log. log ≡ record { area = 0; size = 9; limit = root.limit; count = max root.count 1; sound = true }) }
+    ensures log { IfOk result (λ log. log ≡ sound_log 0 9 root.limit (max root.count 1)) }
     ensures stands { R.tells → IfOk result (λ log. gate.Stands log (R.state rack.new)) }
-    ensures records { R.tells → OnOk result (records 9 (contents_of 0 (R.state rack.new)) ≡ made_records shape.now (records 9 (contents_of 0 (R.state rack.old)))) }
-    ensures each_moment { R.tells → AtEachMoment (EachImage 0 (IsMakingOf shape.now (contents_of 0 (R.state rack.old))) (R.state rack.old).areas) (R.state rack.old) (R.state rack.new) }
+    ensures records { R.tells → OnOk result (records 9 (contents_of 0 (R.state rack.new))
+        ≡ made_records shape.now (records 9 (contents_of 0 (R.state rack.old)))) }
+    ensures each_moment { R.tells → MakingLeaves shape.now (R.state rack.old) (R.state rack.new) }
     ensures image { R.tells → ReadsAnImage (R.state rack.new).areas 0 }
     ensures room { R.tells → (R.state rack.old).room ≤ (R.state rack.new).room + 12 }
     ensures owes { Owes 6 (IsErr result) (R.state rack.old) (R.state rack.new) }
@@ -293,8 +322,10 @@ fn close_log<R: Rack>(
     ensures log { IfOk result (λ found. option_map epoch_log found ≡ option_map read_log read) }
     ensures closed { IfOk result (IfClosed limit) }
     ensures stands { R.tells → IfOk result (λ found. IfStands found (R.state rack.new).areas) }
-    ensures each_moment { R.tells → AtEachMoment (ClosesLog read (R.state rack.old).areas) (R.state rack.old) (R.state rack.new) }
-    ensures image { R.tells → (log : ReadTagsState) → read ≡ Some log → ReadsAnImage (R.state rack.new).areas (area_of log.epoch) }
+    ensures each_moment { R.tells → AtEachMoment (ClosesLog read (R.state rack.old).areas)
+        (R.state rack.old) (R.state rack.new) }
+    ensures image { R.tells → (log : ReadTagsState) → read ≡ Some log →
+        ReadsAnImage (R.state rack.new).areas (area_of log.epoch) }
     ensures room { R.tells → (R.state rack.old).room ≤ (R.state rack.new).room + 1 }
     ensures owes { Owes 2 (IsErr result) (R.state rack.old) (R.state rack.new) }
 {
