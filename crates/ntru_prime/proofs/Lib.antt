@@ -5,3 +5,5 @@ pub mod Members
 pub mod Refusals
 pub mod Sorting
 pub mod Inversion
+pub mod PublicKeys
+pub mod PairKeys

@@ -1,5 +1,5 @@
 -- What bytes say in the three forms, and the parts of a secret key.
-use Rattle.std.specs.Prelude.{ℕ, List, ℤ, take, drop, nat_lt, Bool, Option, Some, None, if◌then◌else◌}
+use Rattle.std.specs.Prelude.{ℕ, List, ℤ, take, drop, nat_lt, is_some, Bool, Option, Some, None, if◌then◌else◌}
 use Rattle.std.specs.List.{list_all, range_with_len}
 use Rattle.mix_base.specs.Options.{◌>>=◌}
 use Rattle.ntru_code.specs.Forms.{bound_at, field_in, rounded, small, values, whole}
@@ -21,6 +21,10 @@ whole_in bytes =
 unfoldable pub rounded_in : List ℕ → Option (List ℤ)
 rounded_in bytes =
     if all_below 761 (field_in rounded bytes) (bound_at rounded) then Some (values rounded bytes) else None
+
+-- whether bytes of a public key's length are one: no field is out of range
+abbrev pub is_public_key : List ℕ → Bool
+is_public_key bytes = is_some (whole_in bytes)
 
 -- a secret key is the small form of f, that of the inverse of g, 191 bytes each, and the public key
 unfoldable pub secret_key_in : List ℕ → Option SecretKey

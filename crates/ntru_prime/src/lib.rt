@@ -15,3 +15,4 @@ mod sealing;
 mod tests;
 
 pub use mechanism::{NtruKem, NtruSuite};
+pub use reading::is_public_key;

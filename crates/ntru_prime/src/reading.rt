@@ -1,9 +1,11 @@
 // Bytes read as polynomials, and a secret key as its three parts.
-ghost use Rattle.std.specs.Prelude.{◌≡◌, length};
+ghost use Rattle.std.specs.Prelude.{◌≡◌, ◌↔◌, ℕ, List, length, IfOk, IsSome, IsTrue};
 ghost use Rattle.ntru_prime.specs.Answers.{Gives};
-ghost use Rattle.ntru_prime.specs.Reading.{rounded_in, secret_key_in, small_in, whole_in};
+ghost use Rattle.ntru_prime.specs.Reading.{is_public_key, rounded_in, secret_key_in, small_in, whole_in};
+ghost use Rattle.ntru_prime.specs.Scheme.{encapsulated};
 
 use crate::faults::Refusal;
+use mix_base::Memory;
 use ntru_code::{decode_q, decode_rounded, decode_small};
 use ntru_ring::{Poly3, PolyQ};
 use std::alloc::Global;
@@ -34,6 +36,21 @@ pub(crate) fn whole_in(alloc: Global, bytes: &[u8]) -> Result<PolyQ, Refusal>
     let polynomial = decode_q(alloc, bytes)?;
     polynomial.known_in_range();
     Ok(polynomial)
+}
+
+/// Whether 1,218 bytes are a public key: no field is out of range. Takes memory for the polynomial that they spell.
+pub fn is_public_key(alloc: Global, bytes: &[u8]) -> Result<bool, Memory>
+    requires { length bytes.now ≡ 1218 }
+    ensures exact { IfOk result (λ is_key. is_key ≡ is_public_key bytes.now) }
+    // Encapsulation has a value exactly for such a key, whatever the coins.
+    ensures encapsulates { IfOk result (λ is_key. (coins : List ℕ) →
+        IsTrue is_key ↔ IsSome (encapsulated bytes.now coins)) }
+{
+    match whole_in(alloc, bytes) {
+        Ok(_) => Ok(true),
+        Err(Refusal::Refused) => Ok(false),
+        Err(Refusal::Memory) => Err(Memory),
+    }
 }
 
 // The polynomial of 1,015 bytes in the rounded form.

@@ -118,8 +118,10 @@ fn changed_keys_and_ciphertexts_are_refused(rt: HostRuntime) -> Result<(), Fail>
         let sk = changed(&sk, at, others);
         assert!(rt; !opens::<NtruSuite>(alloc, &sk, &ct, &mut secret)?, "{at}");
     }
+    assert!(rt; is_public_key(alloc, &pk)?);
     let mut other = [0; 1047];
     let pk = changed(&pk, 1216, b"\xef\x11");
+    assert!(rt; !is_public_key(alloc, &pk)?);
     assert_eq!(rt;
         NtruKem::encap(alloc, &pk, &coins(), &mut other, &mut secret),
         Err(EncapFault::KeyForm)
