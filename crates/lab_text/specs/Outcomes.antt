@@ -1,14 +1,12 @@
 -- What an input says: a value, or where it stops to say one; and how reading it may end.
 use Rattle.std.specs.Prelude.{◌≡◌, ⊤, ℕ, Option, Some, None, Result, Ok, Err}
 use Rattle.lab_text.specs.declared.statuses.Status.{Status}
-use Rattle.lab_text.specs.declared.statuses.Status.TheVariants.{Done, Words, Line, ReadFault, WriteFault, Foreign, OtherShape, Memory, NoKey, Later}
+use Rattle.lab_text.specs.declared.statuses.Status.TheVariants.{Done, Words, Line, ReadFault, WriteFault, Foreign, OtherShape, Memory, NoKey}
 
--- a value; or the number of the first line that is outside the grammar, or that asks for what isn't built yet; or an
--- epoch that has no key
+-- a value; or the number of the first line that is outside the grammar; or an epoch that has no key
 pub data Outcome (A : Type 0) : Type 0 where
   Says : A → Outcome A
   Outside : (line : ℕ) → Outcome A
-  NotBuilt : (line : ℕ) → Outcome A
   Keyless : (epoch : ℕ) → Outcome A
 
 -- one step after the other: the first that stops decides
@@ -16,7 +14,6 @@ infixl 10 ◌>>=◌
 abbrev pub ◌>>=◌ : {A B : Type 0} → Outcome A → (A → Outcome B) → Outcome B
 (Says value) >>= next = next value
 (Outside line) >>= next = Outside line
-(NotBuilt line) >>= next = NotBuilt line
 (Keyless epoch) >>= next = Keyless epoch
 
 -- what the line of this number says, where it is in the grammar
@@ -29,7 +26,6 @@ at_line number (Some value) = Says value
 abbrev pub Reads : {A : Type 0} → Outcome A → Result A Status → Type 0
 Reads outcome (Ok value) = outcome ≡ Says value
 Reads outcome (Err (Line line)) = outcome ≡ Outside line
-Reads outcome (Err (Later line)) = outcome ≡ NotBuilt line
 Reads outcome (Err (NoKey epoch)) = outcome ≡ Keyless epoch
 Reads outcome (Err ReadFault) = ⊤
 Reads outcome (Err Memory) = ⊤
@@ -42,7 +38,6 @@ Reads outcome (Err (OtherShape node shard stored asked)) = ⊥
 -- what reading an input may end with
 abbrev pub EndsReading : Status → Type 0
 EndsReading (Line line) = ⊤
-EndsReading (Later line) = ⊤
 EndsReading ReadFault = ⊤
 EndsReading Memory = ⊤
 EndsReading Done = ⊥

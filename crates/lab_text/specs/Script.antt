@@ -9,8 +9,6 @@ pub data Ending : Type 0 where
   AtEnd : Ending
   -- before the line of this number, which is outside the grammar
   Outside : (line : ℕ) → Ending
-  -- before the line of this number, which asks for what a caller hasn't built yet
-  NotBuilt : (line : ℕ) → Ending
 
 -- events with the numbers of their lines, and how the script ends behind them
 pub record Events : Type 0 where

@@ -8,7 +8,7 @@ use Rattle.lab_text.specs.WordForms.{line_of}
 use Rattle.lab_text.specs.declared.faults.LineFault.{LineFault}
 use Rattle.lab_text.specs.declared.faults.LineFault.TheVariants as faults
 use Rattle.lab_text.specs.declared.statuses.Status.{Status}
-use Rattle.lab_text.specs.declared.statuses.Status.TheVariants.{Done, Words, Line, ReadFault, WriteFault, Foreign, OtherShape, Memory, NoKey, Later}
+use Rattle.lab_text.specs.declared.statuses.Status.TheVariants.{Done, Words, Line, ReadFault, WriteFault, Foreign, OtherShape, Memory, NoKey}
 
 -- the exit code
 abbrev pub code_of : Status → ℕ
@@ -21,7 +21,6 @@ code_of (Foreign node shard area at) = 5
 code_of (OtherShape node shard stored asked) = 5
 code_of Memory = 6
 code_of (NoKey epoch) = 8
-code_of (Later line) = 11
 
 -- which shard of how many: the number of shards, a stroke, and the index; 47 is the stroke
 abbrev pub shape_word : Shape → List ℕ
@@ -40,7 +39,6 @@ status_text (OtherShape node shard stored asked) = line_of (codes "mix:" ∷ cod
     codes "stored" ∷ shape_word stored ∷ codes "asked" ∷ shape_word asked ∷ [])
 status_text Memory = codes "mix: memory" ++ 10 ∷ []
 status_text (NoKey epoch) = codes "mix: no key for epoch " ++ decimal epoch ++ 10 ∷ []
-status_text (Later line) = codes "mix: later line " ++ decimal line ++ 10 ∷ []
 
 -- the status of a fault in reading a line
 abbrev pub line_status : LineFault → Status

@@ -46,10 +46,6 @@ pub enum Status {
     NoKey {
         epoch: u64,
     },
-    /// The line of this number is the first that asks for what isn't built yet.
-    Later {
-        line: u64,
-    },
 }
 
 impl From<LineFault> for Status {
@@ -92,7 +88,6 @@ pub fn code(status: &Status) -> u8
         Status::Foreign { .. } | Status::OtherShape { .. } => 5,
         Status::Memory => 6,
         Status::NoKey { .. } => 8,
-        Status::Later { .. } => 11,
     }
 }
 
@@ -126,7 +121,6 @@ pub fn write_status<O: Sink>(alloc: Global, sink: &mut O, status: &Status) -> Re
         } => write_other_shape(alloc, sink, *node, *shard, stored, asked),
         Status::Memory => sink.put(alloc, b"mix: memory\n"),
         Status::NoKey { epoch } => write_line(alloc, sink, "mix: no key for epoch ", *epoch),
-        Status::Later { line } => write_line(alloc, sink, "mix: later line ", *line),
     }
 }
 

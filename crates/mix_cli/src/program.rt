@@ -7,16 +7,16 @@ ghost use Rattle.mix_base.specs.Faults.{Rose};
 ghost use Rattle.mix_base.specs.Writing.{GivesFront};
 ghost use Rattle.lab_text.specs.Readers.{ReachesEnd};
 ghost use Rattle.lab_text.specs.Statuses.{code_of, status_text};
-ghost use Rattle.mix_tools.specs.Answers.{AnswersCommand, EndsInput, EndsTool, ExplainsInput, IsReadBy, IsUnwritten};
+ghost use Rattle.mix_tools.specs.Answers.{AnswersCommand, EndsInput, EndsTool, ExplainsInput};
+ghost use Rattle.mix_tools.specs.Answers.{HasNoKey, IfKeyless, IsReadBy, IsUnwritten};
 ghost use Rattle.mix_tools.specs.Commands.{command_of};
 ghost use Rattle.mix_top.specs.Commands.{OnDrive, OnTool, names_drive};
 ghost use Rattle.mix_top.specs.Headline.{AnswersScript};
 ghost use Rattle.mix_cli.specs.Program.{OnWords, ReadsArgs};
 
 use lab_text::{Status, code, write_status};
-use mix_base::{PutFault, Sink, Source, Suite};
+use mix_base::{PutFault, Sink, Source};
 use mix_top::{Bench, mix_command};
-use prim_std::LabSuite;
 use replay_disk::{CrashRack, Rack};
 use std::alloc::Global;
 use std::env::Args;
@@ -57,7 +57,8 @@ pub fn run<I: Source, O: Sink, E: Sink, C: CrashRack, K: Rack>(
     ensures whole { OnOk result.told (IfSome (E.given errors.old) (λ before.
         E.given errors.new ≡ Some (before ++ status_text result.status))) }
     ensures front { OnErr result.told (IfSome (E.given errors.old) (λ before.
-        IsSomeAnd (E.given errors.new) (λ after. GivesFront before after (status_text result.status)))) }
+        IsSomeAnd (E.given errors.new) (λ after.
+        GivesFront before after (status_text result.status)))) }
 
     // The rest is what `mix_command` promises at these words.
     ensures forms { OnWords result.words (λ words. (result.status ≡ Status.Words) ↔
@@ -65,16 +66,20 @@ pub fn run<I: Source, O: Sink, E: Sink, C: CrashRack, K: Rack>(
     ensures untouched { result.status ≡ Status.Words →
         (source.new ≡ source.old) × (sink.new ≡ sink.old) }
     ensures headline { OnWords result.words (λ words. OnDrive words
-        (AnswersScript C.tells ⟦<LabSuite as Suite>⟧.meaning (I.left source.old) result.status
-        (O.given sink.old) (O.given sink.new) (map C.state bench.old.lab.items) (map C.state bench.new.lab.items))) }
-    ensures bench { OnWords result.words (λ words. names_drive words ≡ false → bench.new ≡ bench.old) }
+        (AnswersScript C.tells (I.left source.old) result.status (O.given sink.old) (O.given sink.new)
+        (map C.state bench.old.lab.items) (map C.state bench.new.lab.items))) }
+    ensures bench { OnWords result.words (λ words.
+        names_drive words ≡ false → bench.new ≡ bench.old) }
     ensures end { OnWords result.words (λ words. OnDrive words
         (result.status ≡ Status.Done → ReachesEnd (I.left source.old) (I.left source.new))) }
     ensures tool_text { OnWords result.words (λ words. OnTool words (λ command.
         AnswersCommand command (I.left source.old) (O.given sink.old) (O.given sink.new) result.status)) }
     ensures tool_cause { OnWords result.words (λ words. OnTool words (λ command.
         ExplainsInput command (I.left source.old) result.status)) }
-    ensures tool_kind { OnWords result.words (λ words. OnTool words (λ command. EndsTool result.status)) }
+    ensures tool_kind { OnWords result.words (λ words.
+        OnTool words (λ command. EndsTool result.status)) }
+    ensures tool_no_key { OnWords result.words (λ words. OnTool words (λ command.
+        IfKeyless result.status (HasNoKey command))) }
     ensures tool_unwritten { OnWords result.words (λ words. OnTool words (λ command.
         IsUnwritten result.status sink.old sink.new)) }
     ensures tool_end { result.status ≡ Status.Done →

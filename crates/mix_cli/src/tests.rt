@@ -114,8 +114,8 @@ fn codes_and_texts(rt: HostRuntime) -> Result<(), Fail> {
             ..call(keys, "")
         },
         Case {
-            code: 11,
-            told: "mix: later line 1\n",
+            code: 2,
+            told: "mix: line 2\n",
             ..call(&["answer"], "answer ntru 1 1\n")
         },
     ];

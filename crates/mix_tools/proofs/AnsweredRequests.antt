@@ -6,9 +6,9 @@ use Rattle.lab_text.specs.Readers.{GivesLine, coming, lines_given}
 use Rattle.lab_text.specs.Words.{words_of}
 use Rattle.lab_text.specs.declared.lines.LineReader.{LineReader}
 use Rattle.lab_text.specs.declared.statuses.Status.{Status}
-use Rattle.lab_text.specs.declared.statuses.Status.TheVariants.{Done, Words, Line, ReadFault, WriteFault, Foreign, OtherShape, Memory, NoKey, Later}
+use Rattle.lab_text.specs.declared.statuses.Status.TheVariants.{Done, Words, Line, ReadFault, WriteFault, Foreign, OtherShape, Memory, NoKey}
 use Rattle.mix_base.specs.declared.reading.Source.{Ghosts}
-use Rattle.mix_tools.specs.Answers.{Answers, AnswersOutcome, EndsTool, Explains}
+use Rattle.mix_tools.specs.Answers.{Answers, AnswersOutcome, EndsTool, Explains, IfKeyless}
 use Rattle.lab_text.specs.Outcomes.{EndsReading, Outcome, Says, Reads, ◌>>=◌}
 use Rattle.mix_tools.specs.Drafts.{draft_behind}
 use Rattle.mix_tools.specs.Reading.{request_from, request_of, request_to_come}
@@ -29,7 +29,6 @@ request_at_start reader draft (Some text) first lines =
 nothing_given : (outcome : Outcome Request) (given : List ℕ) (status : Status) → Reads {A = Request} outcome (Err status) → EndsReading status
     → (bytes : List ℕ) × (given ≡ given ++ bytes) × Answers (answer_to outcome) status bytes
 nothing_given outcome given (Line line) reads ends = ([], sym (append-nil given), (ap answer_to reads, refl))
-nothing_given outcome given (Later line) reads ends = ([], sym (append-nil given), (ap answer_to reads, refl))
 nothing_given outcome given ReadFault reads ends = ([], sym (append-nil given), refl)
 nothing_given outcome given Memory reads ends = ([], sym (append-nil given), inl refl)
 nothing_given outcome given Done reads ends = absurd reads
@@ -61,7 +60,6 @@ answers_from_request draft request (Some text) before after status reads gives =
 stop_explained : (outcome : Outcome Request) (status : Status) → Reads {A = Request} outcome (Err status) → EndsReading status
     → Explains (answer_to outcome) status
 stop_explained outcome (Line line) reads ends = ap answer_to reads
-stop_explained outcome (Later line) reads ends = ap answer_to reads
 stop_explained outcome ReadFault reads ends = tt
 stop_explained outcome Memory reads ends = tt
 stop_explained outcome Done reads ends = absurd reads
@@ -89,7 +87,6 @@ explained_from_request draft request (Some text) status reads explains =
 -- a command may end with all that reading may end with
 pub ends_tool : (status : Status) → EndsReading status → EndsTool status
 ends_tool (Line line) ends = tt
-ends_tool (Later line) ends = tt
 ends_tool ReadFault ends = tt
 ends_tool Memory ends = tt
 ends_tool Done ends = absurd ends
@@ -99,12 +96,23 @@ ends_tool (Foreign node shard area at) ends = absurd ends
 ends_tool (OtherShape node shard stored asked) ends = absurd ends
 ends_tool (NoKey epoch) ends = absurd ends
 
+-- and reading never ends with an epoch without a key
+pub keyed_reading : (status : Status) → EndsReading status → IfKeyless status (λ epoch. ⊥)
+keyed_reading (Line line) ends = tt
+keyed_reading ReadFault ends = tt
+keyed_reading Memory ends = tt
+keyed_reading Done ends = absurd ends
+keyed_reading Words ends = absurd ends
+keyed_reading WriteFault ends = absurd ends
+keyed_reading (Foreign node shard area at) ends = absurd ends
+keyed_reading (OtherShape node shard stored asked) ends = absurd ends
+keyed_reading (NoKey epoch) ends = absurd ends
+
 -- ---- a line at which reading stops
 
 -- what stops one step stops it with any other behind it
 stops_on : {A B : Type 0} (outcome : Outcome A) (next : A → Outcome B) (status : Status) → Reads {A = A} outcome (Err status) → Reads {A = B} (outcome >>= next) (Err status)
 stops_on outcome next (Line line) reads = ap (λ step. step >>= next) reads
-stops_on outcome next (Later line) reads = ap (λ step. step >>= next) reads
 stops_on outcome next ReadFault reads = tt
 stops_on outcome next Memory reads = tt
 stops_on outcome next Done reads = absurd reads

@@ -1,10 +1,12 @@
 -- What a call of a command owes: a text, by how the call ends, and what it leaves as it was.
-use Rattle.std.specs.Prelude.{◌≡◌, ⊤, ℕ, ◌⊎◌, List, [], take, Option, IfSome}
+use Rattle.std.specs.Prelude.{◌≡◌, ⊤, ℕ, ◌⊎◌, List, [], take, Option, None, IfSome}
+use Rattle.epoch_keys.specs.Keys.{epoch_public_key}
 use Rattle.lab_text.specs.Given.{Gave}
-use Rattle.lab_text.specs.Outcomes.{Outcome, Says, Outside, NotBuilt, Keyless}
+use Rattle.lab_text.specs.Outcomes.{Outcome, Says, Outside, Keyless}
 use Rattle.lab_text.specs.Readers.{ReachesEnd}
 use Rattle.lab_text.specs.declared.statuses.Status.{Status}
-use Rattle.lab_text.specs.declared.statuses.Status.TheVariants.{Done, Words, Line, ReadFault, WriteFault, Foreign, OtherShape, Memory, NoKey, Later}
+use Rattle.lab_text.specs.declared.statuses.Status.TheVariants.{Done, Words, Line, ReadFault, WriteFault, Foreign, OtherShape, Memory, NoKey}
+use Rattle.mix_tools.specs.Suites.{scheme_for}
 use Rattle.mix_tools.specs.Texts.{owed}
 use Rattle.mix_tools.specs.declared.commands.Command.{Command}
 use Rattle.mix_tools.specs.declared.commands.Command.TheVariants.{Keys, Make, Answer, Open}
@@ -13,40 +15,38 @@ use Rattle.mix_tools.specs.declared.commands.Command.TheVariants.{Keys, Make, An
 abbrev pub IsSaid : Outcome (List ℕ) → Type 0
 IsSaid (Says text) = ⊤
 IsSaid (Outside line) = ⊥
-IsSaid (NotBuilt line) = ⊥
 IsSaid (Keyless epoch) = ⊥
 
--- what a status says of the input, whatever the sink tells: after Done and WriteFault a text was owed, and Line and
--- Later name the line at which the input stops
+-- what a status says of the input, whatever the sink tells: after Done and WriteFault a text was owed, Line names the
+-- line at which the input stops, and NoKey the epoch that has no key
 abbrev pub Explains : Outcome (List ℕ) → Status → Type 0
 Explains outcome Done = IsSaid outcome
 Explains outcome (Line line) = outcome ≡ Outside line
-Explains outcome (Later line) = outcome ≡ NotBuilt line
+Explains outcome (NoKey epoch) = outcome ≡ Keyless epoch
 Explains outcome WriteFault = IsSaid outcome
 Explains outcome ReadFault = ⊤
 Explains outcome Memory = ⊤
 Explains outcome Words = ⊥
 Explains outcome (Foreign node shard area at) = ⊥
 Explains outcome (OtherShape node shard stored asked) = ⊥
-Explains outcome (NoKey epoch) = ⊥
 
 -- the bytes are a front of the text that is owed
 abbrev pub IsFront : Outcome (List ℕ) → List ℕ → Type 0
 IsFront outcome bytes = (text : List ℕ) × (count : ℕ) × (outcome ≡ Says text) × (bytes ≡ take count text)
 
--- a call that ends so and gave these bytes: after Done they are the text; after Line and Later the input stops at that
--- line, and nothing was given; a faulty input is answered by nothing, and a sink that failed was given a front
+-- a call that ends so and gave these bytes: after Done they are the text; after Line the input stops at that line, after
+-- NoKey that epoch has no key, and nothing was given; a faulty input is answered by nothing, and a sink that failed was
+-- given a front
 abbrev pub Answers : Outcome (List ℕ) → Status → List ℕ → Type 0
 Answers outcome Done bytes = outcome ≡ Says bytes
 Answers outcome (Line line) bytes = (outcome ≡ Outside line) × (bytes ≡ [])
-Answers outcome (Later line) bytes = (outcome ≡ NotBuilt line) × (bytes ≡ [])
+Answers outcome (NoKey epoch) bytes = (outcome ≡ Keyless epoch) × (bytes ≡ [])
 Answers outcome ReadFault bytes = bytes ≡ []
 Answers outcome WriteFault bytes = IsFront outcome bytes
 Answers outcome Memory bytes = (bytes ≡ []) ⊎ IsFront outcome bytes
 Answers outcome Words bytes = ⊥
 Answers outcome (Foreign node shard area at) bytes = ⊥
 Answers outcome (OtherShape node shard stored asked) bytes = ⊥
-Answers outcome (NoKey epoch) bytes = ⊥
 
 -- the same, where the outcome is known and the sink tells what it was given
 abbrev pub AnswersOutcome : Option (Outcome (List ℕ)) → Option (List ℕ) → Option (List ℕ) → Status → Type 0
@@ -61,27 +61,45 @@ AnswersCommand command left before after status = AnswersOutcome (owed command l
 abbrev pub ExplainsInput : Command → Option (List ℕ) → Status → Type 0
 ExplainsInput command left status = IfSome (owed command left) (λ outcome. Explains outcome status)
 
--- what a command ends with: never what is said of words, of a journal or of an epoch without a key
+-- what a command ends with: never what is said of words or of a journal
 abbrev pub EndsTool : Status → Type 0
 EndsTool Done = ⊤
 EndsTool (Line line) = ⊤
-EndsTool (Later line) = ⊤
+EndsTool (NoKey epoch) = ⊤
 EndsTool ReadFault = ⊤
 EndsTool WriteFault = ⊤
 EndsTool Memory = ⊤
 EndsTool Words = ⊥
 EndsTool (Foreign node shard area at) = ⊥
 EndsTool (OtherShape node shard stored asked) = ⊥
-EndsTool (NoKey epoch) = ⊥
 
--- after Line, Later and ReadFault the sink is as it was, and so it is after a status of a journal or of a key
+-- a fact of the epoch that a status says has no key
+abbrev pub IfKeyless : Status → (ℕ → Type 0) → Type 0
+IfKeyless (NoKey epoch) fact = fact epoch
+IfKeyless Done fact = ⊤
+IfKeyless (Line line) fact = ⊤
+IfKeyless ReadFault fact = ⊤
+IfKeyless WriteFault fact = ⊤
+IfKeyless Memory fact = ⊤
+IfKeyless Words fact = ⊤
+IfKeyless (Foreign node shard area at) fact = ⊤
+IfKeyless (OtherShape node shard stored asked) fact = ⊤
+
+-- an epoch is the one that a command is to give the key of, and its words make no pair; only `keys` gives one
+abbrev pub HasNoKey : Command → ℕ → Type 0
+HasNoKey (Keys ntru seed epoch) named =
+    (named ≡ epoch) × (epoch_public_key (scheme_for ntru) seed epoch ≡ None)
+HasNoKey Make named = ⊥
+HasNoKey Answer named = ⊥
+HasNoKey Open named = ⊥
+
+-- after Line, NoKey and ReadFault the sink is as it was, and so it is after a status of a journal
 abbrev pub IsUnwritten : {O : Type 0} → Status → O → O → Type 0
 IsUnwritten (Line line) old new = new ≡ old
-IsUnwritten (Later line) old new = new ≡ old
+IsUnwritten (NoKey epoch) old new = new ≡ old
 IsUnwritten ReadFault old new = new ≡ old
 IsUnwritten (Foreign node shard area at) old new = new ≡ old
 IsUnwritten (OtherShape node shard stored asked) old new = new ≡ old
-IsUnwritten (NoKey epoch) old new = new ≡ old
 IsUnwritten Done old new = ⊤
 IsUnwritten Words old new = ⊤
 IsUnwritten WriteFault old new = ⊤
@@ -89,14 +107,14 @@ IsUnwritten Memory old new = ⊤
 
 -- `keys` leaves its source as it was
 abbrev pub IsReadBy : {I : Type 0} → Command → I → I → Type 0
-IsReadBy (Keys seed epoch) old new = new ≡ old
+IsReadBy (Keys ntru seed epoch) old new = new ≡ old
 IsReadBy Make old new = ⊤
 IsReadBy Answer old new = ⊤
 IsReadBy Open old new = ⊤
 
 -- how a command leaves its source: `keys` reads nothing of it, and the others read it to its end
 abbrev pub EndsInput : Command → Option (List ℕ) → Option (List ℕ) → Type 0
-EndsInput (Keys seed epoch) before after = after ≡ before
+EndsInput (Keys ntru seed epoch) before after = after ≡ before
 EndsInput Make before after = ReachesEnd before after
 EndsInput Answer before after = ReachesEnd before after
 EndsInput Open before after = ReachesEnd before after

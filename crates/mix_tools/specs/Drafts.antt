@@ -1,12 +1,12 @@
 -- What a draft becomes with one line more, and what is known of a draft.
-use Rattle.std.specs.Prelude.{◌≡◌, ℕ, ◌^◌, ◌<◌, ◌≤◌, ⊤, List, length, All, Option, Some, None, IfSome, IsTrue}
+use Rattle.std.specs.Prelude.{◌≡◌, ℕ, ◌^◌, ◌<◌, ◌≤◌, ⊤, Bool, List, length, All, Option, Some, None, IfSome, IsTrue}
 use Rattle.packet_form.specs.Commands.{longest_delay}
 use Rattle.packet_form.specs.Geometry.{IsWithin, block, payload}
-use Rattle.prim_std.specs.Laboratory.{lab_scheme}
 use Rattle.sphinx_make.specs.declared.drawing.Draw.{Draw}
 use Rattle.mix_tools.specs.MakeLines.{make_line, path_line}
 use Rattle.lab_text.specs.Outcomes.{Outcome, Says, Outside, at_line}
 use Rattle.lab_text.specs.WordForms.{said_words}
+use Rattle.mix_tools.specs.Suites.{decodes_for, scheme_for}
 use Rattle.mix_tools.specs.ReplyLines.{answer_line, are_keys, block_line, body_line, keys_line, open_line, payload_line}
 use Rattle.mix_tools.specs.declared.requests.Delay.{Delay}
 use Rattle.mix_tools.specs.declared.requests.Delay.TheVariants.{Unsaid, Given, Drawn}
@@ -19,17 +19,17 @@ use Rattle.mix_tools.specs.declared.requests.Request.TheVariants.{Packet, Block,
 
 -- the draft behind a line that says something; none may come behind a whole request
 abbrev pub said_behind : ℕ → Draft → List ℕ → List (List ℕ) → Outcome Draft
-said_behind number Making first words = make_line number first words
+said_behind number Making first words = at_line number (make_line first words)
 said_behind number (Path product head draw hops) first words =
     at_line number (path_line product head draw hops first words)
-said_behind number Answering first words = answer_line number first words
-said_behind number (AnswerSizes sizes) first words = at_line number (block_line sizes first words)
-said_behind number (AnswerBlock sizes reply_block) first words =
-    at_line number (body_line sizes reply_block first words)
-said_behind number Opening first words = open_line number first words
-said_behind number (OpenSizes sizes) first words = at_line number (keys_line sizes first words)
-said_behind number (OpenKeys sizes keys) first words =
-    at_line number (payload_line sizes keys first words)
+said_behind number Answering first words = at_line number (answer_line first words)
+said_behind number (AnswerSizes layout) first words = at_line number (block_line layout first words)
+said_behind number (AnswerBlock layout reply_block) first words =
+    at_line number (body_line layout reply_block first words)
+said_behind number Opening first words = at_line number (open_line first words)
+said_behind number (OpenSizes layout) first words = at_line number (keys_line layout first words)
+said_behind number (OpenKeys layout keys) first words =
+    at_line number (payload_line layout keys first words)
 said_behind number (Whole request) first words = Outside number
 
 -- the draft behind the first word of a line and those behind it, where it says something
@@ -54,16 +54,18 @@ IsDelayInRange Unsaid = ⊤
 IsDelayInRange (Given milliseconds) = milliseconds ≤ longest_delay
 IsDelayInRange (Drawn draw) = IsDrawInRange draw
 
-pub record IsHopInRange (hop : Hop) : Type 0 where
-  pub key : length hop.key ≡ lab_scheme.public_key
+-- the key is one of the suite
+pub record IsHopInRange (ntru : Bool) (hop : Hop) : Type 0 where
+  pub key : length hop.key ≡ (scheme_for ntru).public_key
+  pub decodes : IsTrue (decodes_for ntru hop.key)
   pub delay : IsDelayInRange hop.delay
 
--- the laboratory suite's geometry, and no more hops than it has
+-- the suite's geometry, no more hops than it has, and keys of the suite
 pub record IsPathInRange (head : Head) (hops : List Hop) : Type 0 where
-  pub ciphertext : head.geometry.ct ≡ lab_scheme.ciphertext
-  pub most : head.geometry.hops ≤ 5
-  pub count : length hops ≤ head.geometry.hops
-  pub each : All IsHopInRange hops
+  pub ciphertext : head.layout.geometry.ct ≡ (scheme_for head.layout.ntru).ciphertext
+  pub most : head.layout.geometry.hops ≤ 5
+  pub count : length hops ≤ head.layout.geometry.hops
+  pub each : All (IsHopInRange head.layout.ntru) hops
 
 -- the same with one hop at least
 pub record IsPathWhole (head : Head) (hops : List Hop) : Type 0 where
@@ -72,21 +74,23 @@ pub record IsPathWhole (head : Head) (hops : List Hop) : Type 0 where
 
 abbrev pub IsRequestInRange : Request → Type 0
 IsRequestInRange (Packet packet) =
-    IsPathWhole packet.head packet.hops × (length packet.body ≡ packet.head.geometry.body)
-    × IfSome packet.block (λ bytes. length bytes ≡ block packet.head.geometry)
+    IsPathWhole packet.head packet.hops × (length packet.body ≡ packet.head.layout.geometry.body)
+    × IfSome packet.block (λ bytes. length bytes ≡ block packet.head.layout.geometry)
 IsRequestInRange (Block reply_block) = IsPathWhole reply_block.head reply_block.hops
 IsRequestInRange (Answer answer) =
-    (length answer.block ≡ block answer.geometry) × (length answer.body ≡ answer.geometry.body)
+    (length answer.block ≡ block answer.layout.geometry)
+    × (length answer.body ≡ answer.layout.geometry.body)
 IsRequestInRange (Open opening) =
-    IsTrue (are_keys opening.geometry opening.keys) × (length opening.payload ≡ payload opening.geometry)
+    IsTrue (are_keys opening.layout.geometry opening.keys)
+    × (length opening.payload ≡ payload opening.layout.geometry)
 
 abbrev pub IsDraftInRange : Draft → Type 0
 IsDraftInRange Making = ⊤
 IsDraftInRange (Path product head draw hops) = IsPathInRange head hops × IfSome draw IsDrawInRange
 IsDraftInRange Answering = ⊤
-IsDraftInRange (AnswerSizes sizes) = ⊤
-IsDraftInRange (AnswerBlock sizes reply_block) = length reply_block ≡ block sizes
+IsDraftInRange (AnswerSizes layout) = ⊤
+IsDraftInRange (AnswerBlock layout reply_block) = length reply_block ≡ block layout.geometry
 IsDraftInRange Opening = ⊤
-IsDraftInRange (OpenSizes sizes) = ⊤
-IsDraftInRange (OpenKeys sizes keys) = IsTrue (are_keys sizes keys)
+IsDraftInRange (OpenSizes layout) = ⊤
+IsDraftInRange (OpenKeys layout keys) = IsTrue (are_keys layout.geometry keys)
 IsDraftInRange (Whole request) = IsRequestInRange request

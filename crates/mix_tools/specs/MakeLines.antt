@@ -1,15 +1,14 @@
 -- The lines of a request to `make`: what each says behind what the lines before it said.
-use Rattle.std.specs.Prelude.{ℕ, ◌-◌, ◌^◌, nat_lt, if◌then◌else◌, List, [], ◌∷◌, ◌++◌, length, Option, Some, None, option_map, codes}
+use Rattle.std.specs.Prelude.{ℕ, ◌-◌, ◌^◌, nat_lt, Bool, if◌then◌else◌, List, [], ◌∷◌, ◌++◌, length, Option, Some, None, option_map, codes}
 use Rattle.std.specs.Str.{bytes_eq}
 use Rattle.packet_form.specs.Commands.{longest_delay}
 use Rattle.packet_form.specs.Geometry.{Sizes, block}
-use Rattle.prim_std.specs.Laboratory.{lab_scheme}
 use Rattle.sphinx_make.specs.declared.drawing.Draw.{Draw}
 use Rattle.mix_base.specs.Options.{◌>>=◌}
-use Rattle.lab_text.specs.Outcomes.{Outcome, Outside}
 use Rattle.lab_text.specs.WordForms.{bytes_in, first_bytes, first_number, first_of, only_word, surb_of}
 use Rattle.lab_text.specs.Words.{number_in, thirty_two}
-use Rattle.mix_tools.specs.FirstLines.{built, lab_geometry, seed_line}
+use Rattle.mix_tools.specs.FirstLines.{layout_of, seed_line}
+use Rattle.mix_tools.specs.Suites.{decodes_for, scheme_for}
 use Rattle.mix_tools.specs.declared.requests.BlockRequest.{BlockRequest}
 use Rattle.mix_tools.specs.declared.requests.Delay.{Delay}
 use Rattle.mix_tools.specs.declared.requests.Delay.TheVariants.{Unsaid, Given, Drawn}
@@ -26,19 +25,18 @@ use Rattle.mix_tools.specs.declared.requests.SeedLine.{SeedLine}
 -- ---- packet SUITE HOPS BODY SEED, block SUITE HOPS BODY SEED
 
 abbrev pub head_of : SeedLine → Head
-head_of line = record { geometry = lab_geometry line.sizes; seed = line.seed }
+head_of line = record { layout = layout_of line.sizes; seed = line.seed }
 
 -- a path that has no hop yet
-abbrev pub begun : Product → ℕ → Option SeedLine → Outcome Draft
-begun product number None = Outside number
-begun product number (Some line) = built number line.sizes (Path product (head_of line) None [])
+abbrev pub begun : Product → SeedLine → Draft
+begun product line = Path product (head_of line) None []
 
 -- the first line, by its first word
-abbrev pub make_line : ℕ → List ℕ → List (List ℕ) → Outcome Draft
-make_line number first words =
-    if bytes_eq first (codes "packet") then begun products.Packet number (seed_line words)
-    else if bytes_eq first (codes "block") then begun products.Block number (seed_line words)
-    else Outside number
+abbrev pub make_line : List ℕ → List (List ℕ) → Option Draft
+make_line first words =
+    if bytes_eq first (codes "packet") then option_map (begun products.Packet) (seed_line words)
+    else if bytes_eq first (codes "block") then option_map (begun products.Block) (seed_line words)
+    else None
 
 -- ---- draw THRESHOLD UNIT CAP
 
@@ -74,19 +72,19 @@ id_and_bytes count words = do
   bytes ← first_bytes count first.1
   Some (id, bytes.0, bytes.1)
 
--- what stands behind the first word; every key of the laboratory suite's length decodes
-abbrev pub hop_in : Option Draw → List (List ℕ) → Option Hop
-hop_in draw words = do
-  keyed ← id_and_bytes lab_scheme.public_key words
+-- what stands behind the first word: the key has the suite's length and decodes
+abbrev pub hop_in : Bool → Option Draw → List (List ℕ) → Option Hop
+hop_in ntru draw words = do
+  keyed ← id_and_bytes (scheme_for ntru).public_key words
   word ← only_word keyed.2
   delay ← delay_in draw word
-  Some (record { id = keyed.0; key = keyed.1; delay = delay })
+  if decodes_for ntru keyed.1 then Some (record { id = keyed.0; key = keyed.1; delay = delay }) else None
 
 -- as many as the geometry has hops
 abbrev pub hop_line : Product → Head → Option Draw → List Hop → List (List ℕ) → Option Draft
 hop_line product head draw hops words =
-    if nat_lt (length hops) head.geometry.hops
-    then option_map (λ hop. Path product head draw (hops ++ hop ∷ [])) (hop_in draw words)
+    if nat_lt (length hops) head.layout.geometry.hops
+    then option_map (λ hop. Path product head draw (hops ++ hop ∷ [])) (hop_in head.layout.ntru draw words)
     else None
 
 -- ---- to RECIPIENT BODY [BLOCK], to RECIPIENT SURBID
@@ -100,8 +98,8 @@ block_in sizes (word ∷ other ∷ words) = None
 -- what stands behind the first word for a packet
 abbrev pub packet_in : Head → List Hop → List (List ℕ) → Option PacketRequest
 packet_in head hops words = do
-  addressed ← id_and_bytes head.geometry.body words
-  reply_block ← block_in head.geometry addressed.2
+  addressed ← id_and_bytes head.layout.geometry.body words
+  reply_block ← block_in head.layout.geometry addressed.2
   Some (record { head = head; hops = hops; recipient = addressed.0; body = addressed.1; block = reply_block })
 
 -- what stands behind the first word for a block

@@ -1,6 +1,6 @@
 -- What a request to `make` makes: the coins and the delays of its seed, the path, and the packet or the block.
 use Rattle.std.specs.Prelude.{ℕ, ◌+◌, ◌*◌, List, [], ◌∷◌, length, Option, Some, None, Result, codes}
-use Rattle.prim_std.specs.Laboratory.{lab_meaning, lab_scheme}
+use Rattle.mix_base.specs.Suites.{KemScheme}
 use Rattle.mix_base.specs.WordStreams.{first_words, word_bytes}
 use Rattle.prim_std.specs.Primitives.{chacha_word, hmac}
 use Rattle.sphinx_make.specs.Drawing.{drawn_delay, words_taken}
@@ -8,6 +8,7 @@ use Rattle.sphinx_make.specs.Making.{made_packet}
 use Rattle.sphinx_make.specs.declared.faults.MakeFault.{MakeFault}
 use Rattle.sphinx_make.specs.declared.path.HopSpec.{HopSpec}
 use Rattle.reply_blocks.specs.Blocks.{Keys, made_block}
+use Rattle.mix_tools.specs.Suites.{meaning_for, scheme_for}
 use Rattle.mix_tools.specs.declared.requests.BlockRequest.{BlockRequest}
 use Rattle.mix_tools.specs.declared.requests.Delay.{Delay}
 use Rattle.mix_tools.specs.declared.requests.Delay.TheVariants.{Unsaid, Given, Drawn}
@@ -15,8 +16,8 @@ use Rattle.mix_tools.specs.declared.requests.Hop.{Hop}
 use Rattle.mix_tools.specs.declared.requests.PacketRequest.{PacketRequest}
 
 -- the coins of so many hops: the first words of ChaCha20 under the seed
-abbrev pub coins_of : List ℕ → ℕ → List ℕ
-coins_of seed hops = first_words (chacha_word seed) (hops * lab_scheme.coins)
+abbrev pub coins_of : KemScheme → List ℕ → ℕ → List ℕ
+coins_of kem seed hops = first_words (chacha_word seed) (hops * kem.coins)
 
 -- the words that delays are drawn from: those of ChaCha20 under the code of a label under the seed
 abbrev pub delay_words : List ℕ → ℕ → ℕ
@@ -46,17 +47,19 @@ path_from words (hop ∷ hops) =
 -- the packet; a request in the grammar makes one
 abbrev pub packet_made : PacketRequest → Result (List ℕ) MakeFault
 packet_made request =
-    made_packet lab_meaning request.head.geometry (path_from (delay_words request.head.seed) request.hops)
-    request.recipient request.body request.block (coins_of request.head.seed (length request.hops))
+    made_packet (meaning_for request.head.layout.ntru) request.head.layout.geometry
+    (path_from (delay_words request.head.seed) request.hops) request.recipient request.body request.block
+    (coins_of (scheme_for request.head.layout.ntru) request.head.seed (length request.hops))
 
 -- a block's own key: the 32 words behind the coins, as bytes
-abbrev pub own_key_of : List ℕ → ℕ → List ℕ
-own_key_of seed hops =
-    word_bytes (first_words (λ place. chacha_word seed (hops * lab_scheme.coins + place)) 32)
+abbrev pub own_key_of : KemScheme → List ℕ → ℕ → List ℕ
+own_key_of kem seed hops =
+    word_bytes (first_words (λ place. chacha_word seed (hops * kem.coins + place)) 32)
 
 -- the block and the keys that its maker keeps; a request in the grammar makes one
 abbrev pub block_made : BlockRequest → Result (List ℕ × Keys) MakeFault
 block_made request =
-    made_block lab_meaning request.head.geometry (path_from (delay_words request.head.seed) request.hops)
-    request.recipient request.surb (own_key_of request.head.seed (length request.hops))
-    (coins_of request.head.seed (length request.hops))
+    made_block (meaning_for request.head.layout.ntru) request.head.layout.geometry
+    (path_from (delay_words request.head.seed) request.hops) request.recipient request.surb
+    (own_key_of (scheme_for request.head.layout.ntru) request.head.seed (length request.hops))
+    (coins_of (scheme_for request.head.layout.ntru) request.head.seed (length request.hops))

@@ -17,11 +17,11 @@ ended number (Whole request) = Says request
 ended number Making = Outside number
 ended number (Path product head draw hops) = Outside number
 ended number Answering = Outside number
-ended number (AnswerSizes sizes) = Outside number
-ended number (AnswerBlock sizes reply_block) = Outside number
+ended number (AnswerSizes layout) = Outside number
+ended number (AnswerBlock layout reply_block) = Outside number
 ended number Opening = Outside number
-ended number (OpenSizes sizes) = Outside number
-ended number (OpenKeys sizes keys) = Outside number
+ended number (OpenSizes layout) = Outside number
+ended number (OpenKeys layout keys) = Outside number
 
 -- what lines say behind a draft, the first of which has this number
 abbrev pub request_from : List ScriptLine → ℕ → Draft → Outcome Request

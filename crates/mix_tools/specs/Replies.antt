@@ -1,11 +1,11 @@
 -- The keys of a block as bytes, and what answers a block and opens a reply.
 use Rattle.std.specs.Prelude.{ℕ, zero, suc, ◌+◌, ◌-◌, ◌*◌, ◌/◌, List, [], ◌∷◌, ◌++◌, length, slice_range, flat_map, Result}
-use Rattle.prim_std.specs.Laboratory.{lab_meaning}
 use Rattle.reply_blocks.specs.Blocks.{Keys}
 use Rattle.reply_blocks.specs.Replies.{answered, opened_reply}
 use Rattle.reply_blocks.specs.declared.answering.Answered.{Answered}
 use Rattle.reply_blocks.specs.declared.faults.AnswerFault.{AnswerFault}
 use Rattle.reply_blocks.specs.declared.faults.OpenFault.{OpenFault}
+use Rattle.mix_tools.specs.Suites.{meaning_for}
 use Rattle.mix_tools.specs.declared.requests.AnswerRequest.{AnswerRequest}
 use Rattle.mix_tools.specs.declared.requests.OpenRequest.{OpenRequest}
 
@@ -29,8 +29,11 @@ keys_of bytes =
 
 -- a block answered; a request in the grammar is never refused
 abbrev pub block_answered : AnswerRequest → Result Answered AnswerFault
-block_answered request = answered lab_meaning request.geometry request.block request.body
+block_answered request =
+    answered (meaning_for request.layout.ntru) request.layout.geometry request.block request.body
 
 -- a reply opened
 abbrev pub reply_opened : OpenRequest → Result (List ℕ) OpenFault
-reply_opened request = opened_reply lab_meaning request.geometry (keys_of request.keys) request.payload
+reply_opened request =
+    opened_reply (meaning_for request.layout.ntru) request.layout.geometry (keys_of request.keys)
+    request.payload

@@ -3,56 +3,40 @@ use Rattle.std.specs.Prelude.{ℕ, ◌+◌, ◌*◌, ◌/◌, nat_le, ◌==◌, 
 use Rattle.std.specs.Str.{bytes_eq}
 use Rattle.packet_form.specs.Geometry.{Sizes, block, payload}
 use Rattle.mix_base.specs.Options.{◌>>=◌}
-use Rattle.lab_text.specs.Outcomes.{Outcome, Says, Outside, NotBuilt, Keyless}
 use Rattle.lab_text.specs.WordForms.{only_bytes, only_word}
 use Rattle.lab_text.specs.Words.{bytes_of}
-use Rattle.lab_text.specs.declared.sizes.SizesLine.{SizesLine}
-use Rattle.mix_tools.specs.FirstLines.{built, lab_geometry, sizes_line}
+use Rattle.mix_tools.specs.FirstLines.{layout_of, sizes_line}
 use Rattle.mix_tools.specs.declared.requests.Draft.{Draft}
 use Rattle.mix_tools.specs.declared.requests.Draft.TheVariants.{AnswerSizes, AnswerBlock, OpenSizes, OpenKeys, Whole}
+use Rattle.mix_tools.specs.declared.requests.Layout.{Layout}
 use Rattle.mix_tools.specs.declared.requests.Request.TheVariants.{Answer, Open}
 
--- the geometry of a first line of sizes at this number
-abbrev pub said_sizes : ℕ → Option SizesLine → Outcome Sizes
-said_sizes number None = Outside number
-said_sizes number (Some line) = built number line (lab_geometry line)
-
--- a first line of sizes under a name
-abbrev pub sizes_under : List ℕ → ℕ → List ℕ → List (List ℕ) → Outcome Sizes
-sizes_under name number first words =
-    if bytes_eq first name then said_sizes number (sizes_line words) else Outside number
-
--- what such a line begins
-abbrev pub begun_with : (Sizes → Draft) → Outcome Sizes → Outcome Draft
-begun_with next (Says sizes) = Says (next sizes)
-begun_with next (Outside line) = Outside line
-begun_with next (NotBuilt line) = NotBuilt line
-begun_with next (Keyless epoch) = Keyless epoch
+-- a first line of sizes under a name: the layout that it says
+abbrev pub layout_under : List ℕ → List ℕ → List (List ℕ) → Option Layout
+layout_under name first words = if bytes_eq first name then option_map layout_of (sizes_line words) else None
 
 -- ---- answer SUITE HOPS BODY, block BYTES, body BYTES
 
-abbrev pub answer_line : ℕ → List ℕ → List (List ℕ) → Outcome Draft
-answer_line number first words =
-    begun_with AnswerSizes (sizes_under (codes "answer") number first words)
+abbrev pub answer_line : List ℕ → List (List ℕ) → Option Draft
+answer_line first words = option_map AnswerSizes (layout_under (codes "answer") first words)
 
-abbrev pub block_line : Sizes → List ℕ → List (List ℕ) → Option Draft
-block_line sizes first words =
+abbrev pub block_line : Layout → List ℕ → List (List ℕ) → Option Draft
+block_line layout first words =
     if bytes_eq first (codes "block")
-    then option_map (λ bytes. AnswerBlock sizes bytes) (only_bytes (block sizes) words)
+    then option_map (λ bytes. AnswerBlock layout bytes) (only_bytes (block layout.geometry) words)
     else None
 
-abbrev pub body_line : Sizes → List ℕ → List ℕ → List (List ℕ) → Option Draft
-body_line sizes reply_block first words =
+abbrev pub body_line : Layout → List ℕ → List ℕ → List (List ℕ) → Option Draft
+body_line layout reply_block first words =
     if bytes_eq first (codes "body")
-    then option_map (λ body. Whole (Answer (record { geometry = sizes; block = reply_block; body = body })))
-    (only_bytes sizes.body words)
+    then option_map (λ body. Whole (Answer (record { layout = layout; block = reply_block; body = body })))
+    (only_bytes layout.geometry.body words)
     else None
 
 -- ---- open SUITE HOPS BODY, keys BYTES, payload BYTES
 
-abbrev pub open_line : ℕ → List ℕ → List (List ℕ) → Outcome Draft
-open_line number first words =
-    begun_with OpenSizes (sizes_under (codes "open") number first words)
+abbrev pub open_line : List ℕ → List (List ℕ) → Option Draft
+open_line first words = option_map OpenSizes (layout_under (codes "open") first words)
 
 -- whether bytes are keys of 128 bytes: those of one hop at least and of no more than the geometry has, and one more
 abbrev pub are_keys : Sizes → List ℕ → Bool
@@ -66,15 +50,15 @@ keys_in sizes words = do
   bytes ← bytes_of word
   if are_keys sizes bytes then Some bytes else None
 
-abbrev pub keys_line : Sizes → List ℕ → List (List ℕ) → Option Draft
-keys_line sizes first words =
+abbrev pub keys_line : Layout → List ℕ → List (List ℕ) → Option Draft
+keys_line layout first words =
     if bytes_eq first (codes "keys")
-    then option_map (λ bytes. OpenKeys sizes bytes) (keys_in sizes words)
+    then option_map (λ bytes. OpenKeys layout bytes) (keys_in layout.geometry words)
     else None
 
-abbrev pub payload_line : Sizes → List ℕ → List ℕ → List (List ℕ) → Option Draft
-payload_line sizes keys first words =
+abbrev pub payload_line : Layout → List ℕ → List ℕ → List (List ℕ) → Option Draft
+payload_line layout keys first words =
     if bytes_eq first (codes "payload")
-    then option_map (λ bytes. Whole (Open (record { geometry = sizes; keys = keys; payload = bytes })))
-    (only_bytes (payload sizes) words)
+    then option_map (λ bytes. Whole (Open (record { layout = layout; keys = keys; payload = bytes })))
+    (only_bytes (payload layout.geometry) words)
     else None

@@ -2,7 +2,6 @@
 use Rattle.std.specs.Prelude.{ℕ, List, [], ◌∷◌, ◌++◌, Option, Some, None, Result, Ok, Err, option_map, codes}
 use Rattle.std.specs.Fmt.{decimal}
 use Rattle.hex.specs.Hex.{encode_lower}
-use Rattle.prim_std.specs.Laboratory.{lab_scheme}
 use Rattle.epoch_keys.specs.Keys.{epoch_public_key}
 use Rattle.reply_blocks.specs.Blocks.{Keys}
 use Rattle.reply_blocks.specs.declared.answering.Answered.{Answered}
@@ -14,6 +13,7 @@ use Rattle.lab_text.specs.Outcomes.{Outcome, Says, Keyless, ◌>>=◌}
 use Rattle.mix_tools.specs.Packets.{block_made, packet_made}
 use Rattle.mix_tools.specs.Reading.{request_of}
 use Rattle.mix_tools.specs.Replies.{block_answered, key_bytes, reply_opened}
+use Rattle.mix_tools.specs.Suites.{scheme_for}
 use Rattle.mix_tools.specs.declared.commands.Command.{Command}
 use Rattle.mix_tools.specs.declared.commands.Command.TheVariants as commands
 use Rattle.mix_tools.specs.declared.requests.Draft.TheVariants.{Making, Answering, Opening}
@@ -81,7 +81,8 @@ answer_to outcome = do
 
 -- what a command gives, where it is told the input that it reads; `keys` reads none
 abbrev pub owed : Command → Option (List ℕ) → Option (Outcome (List ℕ))
-owed (commands.Keys seed epoch) input = Some (key_owed epoch (epoch_public_key lab_scheme seed epoch))
+owed (commands.Keys ntru seed epoch) input =
+    Some (key_owed epoch (epoch_public_key (scheme_for ntru) seed epoch))
 owed commands.Make input = option_map (λ text. answer_to (request_of Making text)) input
 owed commands.Answer input = option_map (λ text. answer_to (request_of Answering text)) input
 owed commands.Open input = option_map (λ text. answer_to (request_of Opening text)) input

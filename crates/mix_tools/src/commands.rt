@@ -3,13 +3,18 @@ ghost use Rattle.std.specs.Prelude.{◌≡◌, ◌<◌, ◌^◌, IfSome, map, st
 ghost use Rattle.mix_tools.specs.Commands.{command_of, keys_in};
 ghost use Rattle.lab_text.specs.WordForms.{alone};
 
-use lab_text::{LAST_MOMENT, read_32, read_number};
+use lab_text::{LAST_MOMENT, read_32, read_number, read_suite};
 
 /// A command.
 #[derive(Clone, Copy, Debug, PartialEq, Eq)]
 pub enum Command {
     /// The public key of an epoch, below 2^60, under a node's seed.
-    Keys { seed: [u8; 32], epoch: u64 },
+    Keys {
+        /// Whether the suite is `ntru` and not `lab`.
+        ntru: bool,
+        seed: [u8; 32],
+        epoch: u64,
+    },
     /// A packet or a reply block from a request.
     Make,
     /// The packet that answers a reply block.
@@ -37,10 +42,11 @@ fn read_keys(words: &[String]) -> Option<Command>
     ensures { result ≡ keys_in (map string_bytes words.now) }
 {
     match words {
-        [suite, seed, epoch] if suite.as_str() == "lab" => {
+        [suite, seed, epoch] => {
+            let ntru = read_suite(suite.as_bytes())?;
             let seed = read_32(seed.as_bytes())?;
             let epoch = read_number(epoch.as_bytes(), 0, LAST_MOMENT)?;
-            Some(Command::Keys { seed, epoch })
+            Some(Command::Keys { ntru, seed, epoch })
         }
         _ => None,
     }

@@ -1,5 +1,5 @@
 // What a draft becomes with one line more: a line is taken exactly where it is in the grammar behind those before it.
-ghost use Rattle.std.specs.Prelude.{Option, IfErr, IfOk, IsErrOf};
+ghost use Rattle.std.specs.Prelude.{Option, IfErr, IfOk, IfSome, IsErrOf};
 ghost use Rattle.lab_text.specs.Faults.{ReadsWords};
 ghost use Rattle.lab_text.specs.Outcomes.{EndsReading, Reads, at_line};
 ghost use Rattle.lab_text.specs.Words.{words_of};
@@ -44,7 +44,7 @@ fn take_said(
     ensures no_read { IsErrOf result Status.ReadFault → ⊥ }
 {
     match draft {
-        Draft::Making => read_make_line(alloc, first, rest, number),
+        Draft::Making => first_at_number(read_make_line(alloc, first, rest), number),
         Draft::Path {
             product,
             head,
@@ -54,23 +54,34 @@ fn take_said(
             read_path_line(alloc, product, head, draw, hops, first, rest),
             number,
         ),
-        Draft::Answering => read_answer_line(first, rest, number),
-        Draft::AnswerSizes { geometry } => {
-            at_number(read_block_line(alloc, geometry, first, rest), number)
+        Draft::Answering => first_at_number(read_answer_line(first, rest), number),
+        Draft::AnswerSizes { layout } => {
+            at_number(read_block_line(alloc, layout, first, rest), number)
         }
-        Draft::AnswerBlock { geometry, block } => {
-            at_number(read_body_line(alloc, geometry, block, first, rest), number)
+        Draft::AnswerBlock { layout, block } => {
+            at_number(read_body_line(alloc, layout, block, first, rest), number)
         }
-        Draft::Opening => read_open_line(first, rest, number),
-        Draft::OpenSizes { geometry } => {
-            at_number(read_keys_line(alloc, geometry, first, rest), number)
+        Draft::Opening => first_at_number(read_open_line(first, rest), number),
+        Draft::OpenSizes { layout } => {
+            at_number(read_keys_line(alloc, layout, first, rest), number)
         }
-        Draft::OpenKeys { geometry, keys } => at_number(
-            read_payload_line(alloc, geometry, keys, first, rest),
+        Draft::OpenKeys { layout, keys } => at_number(
+            read_payload_line(alloc, layout, keys, first, rest),
             number,
         ),
         Draft::Whole { request: _ } => Err(Status::Line { line: number }),
     }
+}
+
+// What was read of the first line, of this number.
+fn first_at_number(read: Option<Draft>, number: u64) -> Result<Draft, Status>
+    requires { IfSome read IsDraftInRange }
+    ensures exact { Reads (at_line number read) result }
+    ensures in_range { IfOk result IsDraftInRange }
+    ensures kind { IfErr result EndsReading }
+    ensures no_read { IsErrOf result Status.ReadFault → ⊥ }
+{
+    read.ok_or(Status::Line { line: number })
 }
 
 // What was read of the line of this number.

@@ -1,14 +1,13 @@
 // The first lines of the requests: the suite and the sizes of a geometry, and for `make` a seed.
-ghost use Rattle.std.specs.Prelude.{◌≡◌, IfErr, IfSome, IsErrOf};
-ghost use Rattle.lab_text.specs.Outcomes.{EndsReading, Reads};
+ghost use Rattle.std.specs.Prelude.{◌≡◌, IfSome};
 ghost use Rattle.lab_text.specs.Sizes.{AreSizesInRange};
 ghost use Rattle.lab_text.specs.Words.{words_of};
-ghost use Rattle.mix_tools.specs.FirstLines.{built, lab_geometry, seed_line, sizes_line};
+ghost use Rattle.mix_tools.specs.FirstLines.{layout_of, seed_line, sizes_line};
 
-use crate::requests::SeedLine;
-use lab_text::{SizesLine, Status, next_sizes, one_word, read_32, without_words};
+use crate::requests::{Layout, SeedLine};
+use lab_text::{SizesLine, next_sizes, one_word, read_32, without_words};
 use mix_base::Kem;
-use packet_form::Geometry;
+use ntru_prime::NtruKem;
 use prim_std::LabKem;
 
 /// The suite, the sizes and a seed.
@@ -30,16 +29,16 @@ pub fn read_sizes_line(rest: &[u8]) -> Option<SizesLine>
     without_words(sizes, rest)
 }
 
-/// The geometry of the laboratory suite, by a line of this number; the suite `ntru` isn't built.
-pub fn laboratory(line: &SizesLine, number: u64) -> Result<Geometry, Status>
+/// The suite and the geometry of a line of sizes. Asks sizes in their ranges.
+pub fn layout(line: &SizesLine) -> Layout
     requires { AreSizesInRange line.now }
-    ensures exact { Reads (built number line.now (lab_geometry line.now)) result }
-    ensures kind { IfErr result EndsReading }
-    ensures no_read { IsErrOf result Status.ReadFault → ⊥ }
+    ensures { result ≡ layout_of line.now }
 {
-    if line.ntru {
-        Err(Status::Later { line: number })
+    let ntru = line.ntru;
+    let geometry = if ntru {
+        line.geometry(NtruKem::CT)
     } else {
-        Ok(line.geometry(LabKem::CT))
-    }
+        line.geometry(LabKem::CT)
+    };
+    Layout { ntru, geometry }
 }

@@ -1,10 +1,9 @@
 // The lines of a request to `make`: each is read exactly where it is in the grammar, behind what the lines before it
 // said.
 ghost use Rattle.std.specs.Prelude.{◌≡◌, ◌<◌, ◌≤◌, ◌^◌, length, All, option_and_then};
-ghost use Rattle.std.specs.Prelude.{IfOk, IfErr, IfSome, IsErrOf};
+ghost use Rattle.std.specs.Prelude.{IfOk, IfSome, IsTrue};
 ghost use Rattle.packet_form.specs.Geometry as lengths;
 ghost use Rattle.lab_text.specs.Faults.{ReadsAs, ReadsWords};
-ghost use Rattle.lab_text.specs.Outcomes.{EndsReading, Reads};
 ghost use Rattle.lab_text.specs.Sizes.{AreSizesInRange};
 ghost use Rattle.lab_text.specs.WordForms.{only_word};
 ghost use Rattle.lab_text.specs.Words.{words_of};
@@ -13,17 +12,19 @@ ghost use Rattle.mix_tools.specs.Drafts.{IsPathInRange, IsPathWhole, IsRequestIn
 ghost use Rattle.mix_tools.specs.MakeLines.{begun, block_in, delay_in, draw_in, draw_line, ended_path};
 ghost use Rattle.mix_tools.specs.MakeLines.{hop_in, hop_line, id_and_bytes, make_line, packet_in};
 ghost use Rattle.mix_tools.specs.MakeLines.{path_line, reply_in, to_line};
+ghost use Rattle.mix_tools.specs.Suites.{decodes_for, scheme_for};
 ghost use Rattle.mix_tools.specs.declared.requests.Request.TheVariants.{Packet, Block};
 
-use crate::first_lines::{laboratory, read_seed_line};
+use crate::first_lines::{layout, read_seed_line};
 use crate::requests::{
     BlockRequest, Delay, Draft, Head, Hop, Hops, PacketRequest, Product, Request, SeedLine,
 };
 use lab_text::{
-    Status, WordFault, next_bytes, next_number, next_word, one_word, read_32, read_number,
-    read_surb, sized_bytes,
+    WordFault, next_bytes, next_number, next_word, one_word, read_32, read_number, read_surb,
+    sized_bytes,
 };
-use mix_base::{Bytes, Kem};
+use mix_base::{Bytes, Kem, Memory};
+use ntru_prime::{NtruKem, is_public_key};
 use packet_form::{Geometry, LONGEST_DELAY};
 use prim_std::LabKem;
 use sphinx_make::Draw;
@@ -35,51 +36,34 @@ const LAST_THRESHOLD: u64 = 4_294_967_295;
 /// The longest unit of a draw, in milliseconds.
 const LONGEST_UNIT: u64 = 60_000;
 
-/// The first line of a request to `make`, of this number.
-pub fn read_make_line(
-    alloc: Global,
-    first: &[u8],
-    rest: &[u8],
-    number: u64,
-) -> Result<Draft, Status>
-    ensures exact { Reads (make_line number first.now (words_of rest.now)) result }
-    ensures in_range { IfOk result IsDraftInRange }
-    ensures kind { IfErr result EndsReading }
-    ensures no_read { IsErrOf result Status.ReadFault → ⊥ }
+/// The first line of a request to `make`.
+pub fn read_make_line(alloc: Global, first: &[u8], rest: &[u8]) -> Option<Draft>
+    ensures exact { result ≡ make_line first.now (words_of rest.now) }
+    ensures in_range { IfSome result IsDraftInRange }
 {
     if first == b"packet".as_slice() {
-        begin(alloc, Product::Packet, read_seed_line(rest), number)
+        Some(begin(alloc, Product::Packet, &read_seed_line(rest)?))
     } else if first == b"block".as_slice() {
-        begin(alloc, Product::Block, read_seed_line(rest), number)
+        Some(begin(alloc, Product::Block, &read_seed_line(rest)?))
     } else {
-        Err(Status::Line { line: number })
+        None
     }
 }
 
 // The draft that a first line begins.
-fn begin(
-    alloc: Global,
-    product: Product,
-    line: Option<SeedLine>,
-    number: u64,
-) -> Result<Draft, Status>
-    requires { IfSome line (λ l. AreSizesInRange l.sizes) }
-    ensures exact { Reads (begun product number line) result }
-    ensures in_range { IfOk result IsDraftInRange }
-    ensures kind { IfErr result EndsReading }
-    ensures no_read { IsErrOf result Status.ReadFault → ⊥ }
+fn begin(alloc: Global, product: Product, line: &SeedLine) -> Draft
+    requires { AreSizesInRange line.now.sizes }
+    ensures exact { result ≡ begun product line.now }
+    ensures in_range { IsDraftInRange result }
 {
-    let Some(line) = line else {
-        return Err(Status::Line { line: number });
-    };
-    let geometry = laboratory(&line.sizes, number)?;
+    let layout = layout(&line.sizes);
     let seed = line.seed;
-    Ok(Draft::Path {
+    Draft::Path {
         product,
-        head: Head { geometry, seed },
+        head: Head { layout, seed },
         draw: None,
         hops: Hops::new(alloc),
-    })
+    }
 }
 
 /// A line behind the first.
@@ -162,10 +146,10 @@ fn read_hop_line(
     ensures exact { ReadsWords (hop_line product head draw hops (words_of rest.now)) result }
     ensures in_range { IfOk result IsDraftInRange }
 {
-    if hops.len() >= head.geometry.hops() {
+    if hops.len() >= head.layout.geometry.hops() {
         return Err(WordFault::Outside);
     }
-    let hop = read_hop(alloc, draw, rest)?;
+    let hop = read_hop(alloc, head.layout.ntru, draw, rest)?;
     let hops = hops.with(hop)?;
     Ok(Draft::Path {
         product,
@@ -176,14 +160,37 @@ fn read_hop_line(
 }
 
 // What stands behind `hop`.
-fn read_hop(alloc: Global, draw: Option<Draw>, rest: &[u8]) -> Result<Hop, WordFault>
+fn read_hop(alloc: Global, ntru: bool, draw: Option<Draw>, rest: &[u8]) -> Result<Hop, WordFault>
     requires { IfSome draw IsDrawInRange }
-    ensures exact { ReadsWords (hop_in draw (words_of rest.now)) result }
-    ensures in_range { IfOk result IsHopInRange }
+    ensures exact { ReadsWords (hop_in ntru draw (words_of rest.now)) result }
+    ensures in_range { IfOk result (IsHopInRange ntru) }
 {
-    let (id, key, rest) = next_id_and_bytes(alloc, rest, LabKem::PK)?;
+    let (id, key, rest) = next_id_and_bytes(alloc, rest, key_length(ntru))?;
     let delay = read_delay(draw, rest).ok_or(WordFault::Outside)?;
-    Ok(Hop { id, key, delay })
+    if decodes(alloc, ntru, key.as_slice())? {
+        Ok(Hop { id, key, delay })
+    } else {
+        Err(WordFault::Outside)
+    }
+}
+
+// The length of a public key of the suite.
+fn key_length(ntru: bool) -> usize
+    ensures { result ≡ (scheme_for ntru).public_key }
+{
+    if ntru { NtruKem::PK } else { LabKem::PK }
+}
+
+// Whether bytes of that length decode.
+fn decodes(alloc: Global, ntru: bool, key: &[u8]) -> Result<bool, Memory>
+    requires { length key.now ≡ (scheme_for ntru).public_key }
+    ensures { IfOk result (λ fine. fine ≡ decodes_for ntru key.now) }
+{
+    if ntru {
+        is_public_key(alloc, key)
+    } else {
+        Ok(true)
+    }
 }
 
 // An id of 32 bytes and bytes of this length as the first two words, and what stands behind them.
@@ -273,8 +280,8 @@ fn read_packet(
     ensures exact { ReadsWords (packet_in head hops (words_of rest.now)) result }
     ensures in_range { IfOk result (λ packet. IsRequestInRange (Packet packet)) }
 {
-    let (recipient, body, rest) = next_id_and_bytes(alloc, rest, head.geometry.body())?;
-    let block = read_block(alloc, &head.geometry, rest)?;
+    let (recipient, body, rest) = next_id_and_bytes(alloc, rest, head.layout.geometry.body())?;
+    let block = read_block(alloc, &head.layout.geometry, rest)?;
     Ok(PacketRequest {
         head,
         hops,

@@ -9,10 +9,12 @@ ghost use Rattle.mix_tools.specs.Drafts.{IsRequestInRange};
 ghost use Rattle.mix_tools.specs.ReplyLines.{are_keys};
 ghost use Rattle.mix_tools.specs.Replies.{block_answered, reply_opened};
 ghost use Rattle.mix_tools.specs.Replies.{hop_keys, key_at, key_bytes, keys_of};
+ghost use Rattle.mix_tools.specs.Suites.{meaning_for};
 ghost use Rattle.mix_tools.specs.declared.requests.Request.TheVariants.{Answer, Open};
 
 use crate::requests::{AnswerRequest, KEY, OpenRequest};
-use mix_base::Memory;
+use mix_base::{Memory, Suite};
+use ntru_prime::NtruSuite;
 use prim_std::LabSuite;
 use reply_blocks::{AnswerFault, Answered, BlockKeys, OpenFault, answer, open_reply};
 use std::alloc::{AllocError, Global};
@@ -22,9 +24,22 @@ pub fn answer_for(alloc: Global, request: &AnswerRequest) -> Result<Answered, Me
     requires { IsRequestInRange (Answer request.now) }
     ensures { IfOk result (λ made. block_answered request.now ≡ Ok made) }
 {
-    match answer::<LabSuite>(
+    if request.layout.ntru {
+        answer_with::<NtruSuite>(alloc, request)
+    } else {
+        answer_with::<LabSuite>(alloc, request)
+    }
+}
+
+// The answer to a request for this suite.
+fn answer_with<S: Suite>(alloc: Global, request: &AnswerRequest) -> Result<Answered, Memory>
+    requires suite { S.meaning ≡ meaning_for request.now.layout.ntru }
+    requires in_range { IsRequestInRange (Answer request.now) }
+    ensures { IfOk result (λ made. block_answered request.now ≡ Ok made) }
+{
+    match answer::<S>(
         alloc,
-        &request.geometry,
+        &request.layout.geometry,
         request.block.as_slice(),
         request.body.as_slice(),
     ) {
@@ -44,13 +59,31 @@ fn only_memory(fault: AnswerFault) -> Memory
 }
 
 /// The body of a reply, or `Damaged`.
-#[tactic(auto, using(crate::proofs::BlockKeyBytes::keys_fit))]
 pub fn body_for(alloc: Global, request: &OpenRequest) -> Result<Vec<u8>, OpenFault>
     requires { IsRequestInRange (Open request.now) }
     ensures { GivesAs opening_cause (λ body. body.items) result (reply_opened request.now) }
 {
+    if request.layout.ntru {
+        body_with::<NtruSuite>(alloc, request)
+    } else {
+        body_with::<LabSuite>(alloc, request)
+    }
+}
+
+// The body of a reply of this suite, or `Damaged`.
+#[tactic(auto, using(crate::proofs::BlockKeyBytes::keys_fit))]
+fn body_with<S: Suite>(alloc: Global, request: &OpenRequest) -> Result<Vec<u8>, OpenFault>
+    requires suite { S.meaning ≡ meaning_for request.now.layout.ntru }
+    requires in_range { IsRequestInRange (Open request.now) }
+    ensures { GivesAs opening_cause (λ body. body.items) result (reply_opened request.now) }
+{
     let keys = split_keys(alloc, request.keys.as_slice())?;
-    open_reply::<LabSuite>(alloc, &request.geometry, &keys, request.payload.as_slice())
+    open_reply::<S>(
+        alloc,
+        &request.layout.geometry,
+        &keys,
+        request.payload.as_slice(),
+    )
 }
 
 /// The bytes of a block's keys: those of its hops in path order, and its own.

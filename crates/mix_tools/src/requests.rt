@@ -1,5 +1,5 @@
-// What a request says: the geometry and the seed, how delays are drawn, the hops of the path, and what goes to the
-// recipient. A draft is what its lines said so far.
+// What a request says: the suite, the geometry and the seed, how delays are drawn, the hops of the path, and what goes
+// to the recipient. A draft is what its lines said so far.
 use lab_text::SizesLine;
 use mix_base::Bytes;
 use packet_form::Geometry;
@@ -9,6 +9,15 @@ use std::marker::Model;
 
 /// The length of a key of a reply block, in bytes.
 pub const KEY: usize = 128;
+
+/// The suite and the geometry of a request.
+#[derive(Clone, Copy)]
+pub struct Layout {
+    /// Whether the suite is `ntru` and not `lab`.
+    pub ntru: bool,
+    /// That of the suite's ciphertexts.
+    pub geometry: Geometry,
+}
 
 /// The first line of a request to `make`: a suite, sizes and a seed.
 #[derive(Clone, Copy, Debug, PartialEq, Eq)]
@@ -24,10 +33,10 @@ pub enum Product {
     Block,
 }
 
-/// The geometry of a laboratory request, and the seed of its coins and delays.
+/// The suite and the geometry of a request, and the seed of its coins and delays.
 #[derive(Clone, Copy)]
 pub struct Head {
-    pub geometry: Geometry,
+    pub layout: Layout,
     pub seed: [u8; 32],
 }
 
@@ -46,7 +55,7 @@ pub enum Delay {
 #[derive(Drop)]
 pub struct Hop {
     pub id: [u8; 32],
-    /// Its public key.
+    /// Its public key, of the suite's length, which decodes.
     pub key: Bytes,
     pub delay: Delay,
 }
@@ -145,7 +154,7 @@ pub struct BlockRequest {
 /// A request to answer a reply block.
 #[derive(Drop)]
 pub struct AnswerRequest {
-    pub geometry: Geometry,
+    pub layout: Layout,
     /// Of the geometry's length.
     pub block: Bytes,
     /// Of the geometry's length.
@@ -155,7 +164,7 @@ pub struct AnswerRequest {
 /// A request to open what came back to a reply block.
 #[derive(Drop)]
 pub struct OpenRequest {
-    pub geometry: Geometry,
+    pub layout: Layout,
     /// Keys of 128 bytes: those of the block's hops in path order, and the one of its maker's own.
     pub keys: Bytes,
     /// Of the geometry's length.
@@ -186,19 +195,19 @@ pub enum Draft {
     /// Nothing yet of a request to `answer`.
     Answering,
     AnswerSizes {
-        geometry: Geometry,
+        layout: Layout,
     },
     AnswerBlock {
-        geometry: Geometry,
+        layout: Layout,
         block: Bytes,
     },
     /// Nothing yet of a request to `open`.
     Opening,
     OpenSizes {
-        geometry: Geometry,
+        layout: Layout,
     },
     OpenKeys {
-        geometry: Geometry,
+        layout: Layout,
         keys: Bytes,
     },
     /// All of a request.

@@ -1,11 +1,13 @@
 // What no clause says: that the texts are those of another program for the same requests, that calls succeed where
 // memory is ample, and that a failing source or sink is named.
 use crate::tool;
+use epoch_keys::epoch_pair;
 use lab_text::{LineReader, Status, next_word, one_word, read_32};
 use mix_base::{Bytes, Kem, MemSink, MemSource};
+use ntru_prime::{NtruKem, NtruSuite};
 use packet_form::Geometry;
 use prim_std::{LabKem, LabSuite, sha256};
-use sphinx_unwrap::{Out, unwrap};
+use sphinx_unwrap::{Out, Refused, UnwrapFault, unwrap};
 use std::alloc::{AllocError, Global};
 use std::process::Abort;
 use std::test::Fail;
@@ -32,9 +34,16 @@ fn meant(letter: u8) -> &'static str {
 
 /// The text, with what is meant in place of each capital letter.
 fn filled(alloc: Global, text: &str) -> Result<Vec<u8>, AllocError> {
+    filled_with(alloc, text, b"")
+}
+
+/// The same, with a key in place of each N.
+fn filled_with(alloc: Global, text: &str, key: &[u8]) -> Result<Vec<u8>, AllocError> {
     let mut bytes = Vec::new(alloc);
     for byte in text.as_bytes() {
-        if byte.is_ascii_uppercase() {
+        if *byte == b'N' {
+            bytes.extend_from_slice(key)?;
+        } else if byte.is_ascii_uppercase() {
             bytes.extend_from_slice(meant(*byte).as_bytes())?;
         } else {
             bytes.push(*byte)?;
@@ -110,7 +119,7 @@ fn keys_of_epochs(rt: HostRuntime) -> Result<(), Fail> {
         (&["keys", "lab", "Z", "1152921504606846976"], None),
         (&["keys", "lab", "Z"], None),
         (&["keys", "lab", "000", "0"], None),
-        (&["keys", "ntru", "Z", "0"], None),
+        (&["keys", "x", "Z", "0"], None),
         (&["make", "now"], None),
     ];
     for (line, wanted) in cases {
@@ -236,9 +245,6 @@ fn failed_calls_are_named(rt: HostRuntime) -> Result<(), Fail> {
     assert!(rt; answer == Some(Status::ReadFault) && sink.bytes().is_empty());
     let (answer, sink) = run(alloc, &["make"], filled(alloc, request)?, &[], &[1])?;
     assert!(rt; answer == Some(Status::WriteFault) && sink.bytes().is_empty());
-    let later = filled(alloc, "# a suite for later\npacket ntru 5 64 S\n")?;
-    let (answer, sink) = run(alloc, &["make"], later, &[], &[])?;
-    assert!(rt; answer == Some(Status::Later { line: 2 }) && sink.bytes().is_empty());
     Ok(())
 }
 
@@ -349,5 +355,151 @@ fn a_reply_of_the_largest_geometry(rt: HostRuntime) -> Result<(), Fail> {
     let request = three_lines(alloc, "open lab 5 4096\n", &keys, &payload_line)?;
     let opened = done(&rt, alloc, "open", request)?;
     assert!(rt; opened.as_slice() == sent_line.as_bytes());
+    Ok(())
+}
+
+/// The public key of epoch 0 under a seed of zeros in the suite `ntru`, as hexadecimal digits.
+fn key_of_zeros(rt: &impl Abort, alloc: Global) -> Result<Vec<u8>, Fail> {
+    let (answer, sink) = run(
+        alloc,
+        &["keys", "ntru", "Z", "0"],
+        Vec::new(alloc),
+        &[],
+        &[],
+    )?;
+    assert!(rt; answer == Some(Status::Done));
+    assert!(rt;
+        sum(alloc, sink.bytes())?.as_str()
+            == "1918a645fc92a46a0076c821ae679dea716c34b759e6af0c0c8bfffe67da3e12"
+    );
+    let line = line_at(alloc, sink.bytes(), 0)?;
+    let (_, rest) = next_word(&line).ok_or("there is no word")?;
+    let (_, rest) = next_word(rest).ok_or("there is no epoch")?;
+    let key = one_word(rest).ok_or("there is no key")?;
+    Ok(key.to_vec(alloc)?)
+}
+
+/// Makes the first field of a ciphertext's rounded part 1531, which is out of range.
+fn spoil_ciphertext(packet: &mut [u8]) {
+    for (place, byte) in packet.iter_mut().enumerate() {
+        match place {
+            34 => *byte = 0xfb,
+            35 => *byte = 0x05,
+            36 | 37 => *byte = 0,
+            _ => {}
+        }
+    }
+}
+
+#[test]
+fn a_packet_of_the_suite_ntru(rt: HostRuntime) -> Result<(), Fail> {
+    let alloc = rt.alloc();
+    let pair = epoch_pair::<NtruSuite>(alloc, &[0; 32], 0)?;
+    let key = hex::encode(alloc, pair.pk.as_slice())?;
+    let head = "packet ntru 5 2000 S\nhop I N -\nto R ";
+    let mut request = filled_with(alloc, head, key.as_bytes())?;
+    for _ in 0..2000 {
+        request.extend_from_slice(b"41")?;
+    }
+    let made = done(&rt, alloc, "make", request)?;
+    assert!(rt;
+        sum(alloc, &made)?.as_str()
+            == "92fbe0819edec4fb5a4185eb1c67b73910b2fe915d2d0dcdfb0467b36ee2f669"
+    );
+    let mut packet = second_bytes(alloc, &line_at(alloc, &made, 1)?)?;
+    assert!(rt; packet.len() == 15_546);
+    let geometry = Geometry::new(NtruKem::CT, 5, 2000)
+        .ok()
+        .ok_or("there is no geometry")?;
+    let opened = unwrap::<NtruSuite>(alloc, &geometry, pair.sk.as_slice(), &packet)?;
+    match opened.out {
+        Out::Deliver {
+            recipient,
+            body,
+            block,
+        } => {
+            assert!(rt; recipient == [0x22; 32] && block.is_none());
+            assert!(rt; body.as_slice() == [0x41; 2000].as_slice());
+        }
+        _ => return Err("nothing is delivered".into()),
+    }
+    spoil_ciphertext(&mut packet);
+    match unwrap::<NtruSuite>(alloc, &geometry, pair.sk.as_slice(), &packet) {
+        Err(UnwrapFault::Refused(Refused::Sealed)) => Ok(()),
+        _ => Err("a spoiled ciphertext opens".into()),
+    }
+}
+
+#[test]
+fn a_block_and_an_answer_of_the_suite_ntru(rt: HostRuntime) -> Result<(), Fail> {
+    let alloc = rt.alloc();
+    let key = key_of_zeros(&rt, alloc)?;
+    let request = "block ntru 3 16 S\nhop I N 77\nhop J N -\nto R U\n";
+    let made = done(&rt, alloc, "make", filled_with(alloc, request, &key)?)?;
+    assert!(rt;
+        sum(alloc, &made)?.as_str()
+            == "26a547185a7f1b8fd50b9b5a06dac9d9dd068c282a4e599d7172166d2dd09ef3"
+    );
+    let block = line_at(alloc, &made, 0)?;
+    let request = three_lines(alloc, "answer ntru 3 16\n", &block, "body Y\n")?;
+    let sent = done(&rt, alloc, "answer", request)?;
+    assert!(rt;
+        sum(alloc, &sent)?.as_str()
+            == "5522871b0a5809379739d342d66c2ae0cd7a244996e2d926688f69c3b8c9309f"
+    );
+    let keys = line_at(alloc, &made, 1)?;
+    let mut request = three_lines(alloc, "open ntru 3 16\n", &keys, "payload ")?;
+    for _ in 0..4648 {
+        request.extend_from_slice(b"5a")?;
+    }
+    let opened = done(&rt, alloc, "open", request)?;
+    assert!(rt; opened.as_slice() == b"damaged\n".as_slice());
+    Ok(())
+}
+
+/// The digits of a key whose fields are all 0, up to the last.
+fn key_ending_in(alloc: Global, last: &str) -> Result<Vec<u8>, AllocError> {
+    let mut key = Vec::new(alloc);
+    for _ in 0..1216 {
+        key.extend_from_slice(b"00")?;
+    }
+    key.extend_from_slice(last.as_bytes())?;
+    Ok(key)
+}
+
+#[test]
+fn keys_that_are_none_of_the_suite(rt: HostRuntime) -> Result<(), Fail> {
+    let alloc = rt.alloc();
+    // A last field of 4590 and one of 4591, the first out of range; the body is too short for the line behind.
+    let cases: [(&str, &str, u64); 4] = [
+        ("packet ntru 5 64 S\nhop I N -\nto R Y\n", "ee11", 3),
+        ("packet ntru 5 64 S\nhop I N -\nto R Y\n", "ef11", 2),
+        ("packet ntru 5 64 S\nhop I K -\nto R Y\n", "ee11", 2),
+        ("packet lab 5 64 S\nhop I N -\nto R Y\n", "ee11", 2),
+    ];
+    for (request, last, line) in cases {
+        let request = filled_with(alloc, request, &key_ending_in(alloc, last)?)?;
+        let (answer, sink) = run(alloc, &["make"], request, &[], &[])?;
+        assert!(rt; answer == Some(Status::Line { line }) && sink.bytes().is_empty());
+    }
+    Ok(())
+}
+
+/// Five hops and the longest body: the coins are 3,805 words, and each delay is drawn.
+#[test]
+fn a_packet_of_the_largest_geometry_of_ntru(rt: HostRuntime) -> Result<(), Fail> {
+    let alloc = rt.alloc();
+    let key = key_ending_in(alloc, "ee11")?;
+    let mut request = filled(alloc, "packet ntru 5 4096 S\ndraw 2147483648 100 1000\n")?;
+    for _ in 0..5 {
+        request.extend_from_slice(&filled_with(alloc, "hop I N draw\n", &key)?)?;
+    }
+    request.extend_from_slice(&filled(alloc, "to R ")?)?;
+    request.extend_from_slice(digits(alloc, 4096)?.as_bytes())?;
+    let made = done(&rt, alloc, "make", request)?;
+    assert!(rt;
+        sum(alloc, &made)?.as_str()
+            == "ef77e75f134d7508089748ae3f00f6ad62c9ab6b4a9247c1e0fa119057525002"
+    );
     Ok(())
 }

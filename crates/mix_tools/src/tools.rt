@@ -3,16 +3,18 @@
 ghost use Rattle.std.specs.Prelude.{◌≡◌, ◌≢◌, ◌↔◌, ◌≤◌, map, option_map, string_bytes};
 ghost use Rattle.std.specs.Prelude.{None, Some, IfOk, IfSome, IsNone};
 ghost use Rattle.mix_base.specs.Faults.{Rose};
-ghost use Rattle.prim_std.specs.Laboratory.{lab_scheme};
 ghost use Rattle.epoch_keys.specs.Keys.{epoch_public_key};
 ghost use Rattle.lab_text.specs.Outcomes.{Says};
 ghost use Rattle.lab_text.specs.Readers.{ReachesEnd};
 ghost use Rattle.mix_tools.specs.Answers.{AnswersCommand, AnswersOutcome, EndsInput, EndsTool};
-ghost use Rattle.mix_tools.specs.Answers.{Explains, ExplainsInput, IsReadBy, IsUnwritten};
+ghost use Rattle.mix_tools.specs.Answers.{Explains, ExplainsInput, HasNoKey, IfKeyless, IsReadBy};
+ghost use Rattle.mix_tools.specs.Answers.{IsUnwritten};
 ghost use Rattle.mix_tools.specs.Commands.{command_of};
 ghost use Rattle.mix_tools.specs.Drafts.{IsDraftInRange, IsRequestInRange};
 ghost use Rattle.mix_tools.specs.Reading.{request_of};
+ghost use Rattle.mix_tools.specs.Suites.{scheme_for};
 ghost use Rattle.mix_tools.specs.Texts.{answer_to, key_owed, request_answer};
+ghost use Rattle.mix_tools.specs.declared.commands.Command.TheVariants.{Keys};
 
 use crate::commands::{Command, read_command};
 use crate::packets::{block_for, packet_for};
@@ -22,13 +24,14 @@ use crate::requests::{Draft, Request};
 use crate::texts::{keeping_lines, key_line, opened_line, sending_lines};
 use epoch_keys::{KeyFault, epoch_pair};
 use lab_text::{LineReader, Status};
-use mix_base::{Memory, PutFault, Sink, Source};
+use mix_base::{Memory, PutFault, Sink, Source, Suite};
+use ntru_prime::NtruSuite;
 use prim_std::LabSuite;
 use std::alloc::Global;
 
-/// Runs the command that the words name: `keys lab SEED EPOCH` writes the public key of an epoch; `make` reads a request
-/// and writes its packet or reply block; `answer` and `open` answer a block and open what came back. None comes exactly
-/// where the words are no form of a command, and then source and sink are as they were.
+/// Runs the command that the words name: `keys SUITE SEED EPOCH` writes the public key of an epoch; `make` reads a
+/// request and writes its packet or reply block; `answer` and `open` answer a block and open what came back. None comes
+/// exactly where the words are no form of a command, and then source and sink are as they were.
 pub fn tool<I: Source, O: Sink>(
     alloc: Global,
     words: &[String],
@@ -45,12 +48,16 @@ pub fn tool<I: Source, O: Sink>(
     ensures not_words { result ≢ Some Status.Words }
     ensures kind { IfSome result EndsTool }
 
-    // Line and Later have their cause wherever the source tells the input, whatever the sink tells.
+    // Line and NoKey have their cause wherever the source tells the input, whatever the sink tells; and NoKey, which
+    // comes from `keys` alone, also where nothing is told.
     ensures cause { IfSome result (λ status.
         IfSome (command_of (map string_bytes words.now)) (λ command.
         ExplainsInput command (I.left source.old) status)) }
+    ensures no_key { IfSome result (λ status.
+        IfSome (command_of (map string_bytes words.now)) (λ command.
+        IfKeyless status (HasNoKey command))) }
 
-    // What is left as it was: the sink where the input stops, and the source of `keys`.
+    // What is left as it was: the sink where the input stops or an epoch has no key, and the source of `keys`.
     ensures unwritten { IfSome result (λ status. IsUnwritten status sink.old sink.new) }
     ensures keys_reads_nothing { IfSome (command_of (map string_bytes words.now)) (λ command.
         IsReadBy command source.old source.new) }
@@ -72,18 +79,27 @@ pub fn tool<I: Source, O: Sink>(
     ensures sink_faults { O.faults sink.old ≤ O.faults sink.new }
 {
     match read_command(words)? {
-        Command::Keys { seed, epoch } => Some(write_key(alloc, sink, &seed, epoch)),
+        Command::Keys { ntru, seed, epoch } => Some(answer_keys(alloc, sink, ntru, &seed, epoch)),
         Command::Make => Some(answer_request(alloc, Draft::Making, source, sink)),
         Command::Answer => Some(answer_request(alloc, Draft::Answering, source, sink)),
         Command::Open => Some(answer_request(alloc, Draft::Opening, source, sink)),
     }
 }
 
-// Writes the public key of an epoch.
-fn write_key<O: Sink>(alloc: Global, sink: &mut O, seed: &[u8; 32], epoch: u64) -> Status
-    ensures text { AnswersOutcome (Some (key_owed epoch (epoch_public_key lab_scheme seed.now epoch)))
+// Writes the public key of an epoch in a suite.
+fn answer_keys<O: Sink>(
+    alloc: Global,
+    sink: &mut O,
+    ntru: bool,
+    seed: &[u8; 32],
+    epoch: u64,
+) -> Status
+    ensures text { AnswersOutcome
+        (Some (key_owed epoch (epoch_public_key (scheme_for ntru) seed.now epoch)))
         (O.given sink.old) (O.given sink.new) result }
-    ensures cause { Explains (key_owed epoch (epoch_public_key lab_scheme seed.now epoch)) result }
+    ensures cause { Explains
+        (key_owed epoch (epoch_public_key (scheme_for ntru) seed.now epoch)) result }
+    ensures no_key { IfKeyless result (HasNoKey (Keys ntru seed.now epoch)) }
     ensures unwritten { IsUnwritten result sink.old sink.new }
     ensures not_words { result ≢ Status.Words }
     ensures kind { EndsTool result }
@@ -92,12 +108,35 @@ fn write_key<O: Sink>(alloc: Global, sink: &mut O, seed: &[u8; 32], epoch: u64) 
         Rose (O.faults sink.old) (O.faults sink.new) }
     ensures faults { O.faults sink.old ≤ O.faults sink.new }
 {
-    match epoch_pair::<LabSuite>(alloc, seed, epoch) {
+    if ntru {
+        write_key::<NtruSuite, O>(alloc, sink, seed, epoch)
+    } else {
+        write_key::<LabSuite, O>(alloc, sink, seed, epoch)
+    }
+}
+
+// Writes the public key of an epoch, where its words make a pair.
+fn write_key<S: Suite, O: Sink>(alloc: Global, sink: &mut O, seed: &[u8; 32], epoch: u64) -> Status
+    ensures text { AnswersOutcome
+        (Some (key_owed epoch (epoch_public_key S.meaning.kem seed.now epoch)))
+        (O.given sink.old) (O.given sink.new) result }
+    ensures cause { Explains (key_owed epoch (epoch_public_key S.meaning.kem seed.now epoch)) result }
+    ensures no_key { IfKeyless result (λ named.
+        (named ≡ epoch) × (epoch_public_key S.meaning.kem seed.now epoch ≡ None)) }
+    ensures unwritten { IsUnwritten result sink.old sink.new }
+    ensures not_words { result ≢ Status.Words }
+    ensures kind { EndsTool result }
+    ensures not_read { result ≢ Status.ReadFault }
+    ensures write_fault { result ≡ Status.WriteFault →
+        Rose (O.faults sink.old) (O.faults sink.new) }
+    ensures faults { O.faults sink.old ≤ O.faults sink.new }
+{
+    match epoch_pair::<S>(alloc, seed, epoch) {
         Ok(key) => match key_line(alloc, epoch, key.pk.as_slice()) {
             Ok(text) => give(alloc, sink, &text),
             Err(_) => Status::Memory,
         },
-        Err(KeyFault::NoKey { epoch: _ }) => unreachable!(),
+        Err(KeyFault::NoKey { epoch }) => Status::NoKey { epoch },
         Err(KeyFault::Memory) => Status::Memory,
     }
 }
@@ -116,6 +155,7 @@ fn answer_request<I: Source, O: Sink>(
     ensures cause { IfSome
         (option_map (λ text. answer_to (request_of draft text)) (I.left source.old))
         (λ outcome. Explains outcome result) }
+    ensures keyed { IfKeyless result (λ epoch. ⊥) }
     ensures unwritten { IsUnwritten result sink.old sink.new }
     ensures end { result ≡ Status.Done → ReachesEnd (I.left source.old) (I.left source.new) }
     ensures given_at_end { O.given sink.new ≢ O.given sink.old →
@@ -144,6 +184,7 @@ fn write_answer<O: Sink>(alloc: Global, sink: &mut O, request: &Request) -> Stat
     ensures text { AnswersOutcome (Some (Says (request_answer request.now)))
         (O.given sink.old) (O.given sink.new) result }
     ensures cause { Explains (Says (request_answer request.now)) result }
+    ensures keyed { IfKeyless result (λ epoch. ⊥) }
     ensures unwritten { IsUnwritten result sink.old sink.new }
     ensures not_words { result ≢ Status.Words }
     ensures kind { EndsTool result }
@@ -185,6 +226,7 @@ fn give<O: Sink>(alloc: Global, sink: &mut O, text: &String) -> Status
     ensures text { AnswersOutcome (Some (Says (string_bytes text.now)))
         (O.given sink.old) (O.given sink.new) result }
     ensures cause { Explains (Says (string_bytes text.now)) result }
+    ensures keyed { IfKeyless result (λ epoch. ⊥) }
     ensures unwritten { IsUnwritten result sink.old sink.new }
     ensures not_words { result ≢ Status.Words }
     ensures kind { EndsTool result }

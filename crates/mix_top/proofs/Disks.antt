@@ -528,7 +528,6 @@ owed_follows tells suite ending (statuses.OtherShape node shard stored asked) (a
 owed_follows tells suite ending (statuses.OtherShape node shard stored asked) [] state end ends = absurd ends
 owed_follows tells suite ending (statuses.NoKey epoch) (act ∷ others) state end ends = inr (act, statuses.NoKey epoch, ends)
 owed_follows tells suite ending (statuses.NoKey epoch) [] state end ends = absurd ends
-owed_follows tells suite ending (statuses.Later number) rest state end owed = absurd owed
 owed_follows tells suite ending statuses.Words rest state end owed = absurd owed
 
 -- what is known of all disks is known of the first of them

@@ -7,23 +7,28 @@ use Rattle.std.proofs.lemmas.List.Elements.{All-weaker}
 use Rattle.mix_base.specs.Suites.{SuiteMeaning}
 use Rattle.mix_base.specs.declared.reading.Source.{Ghosts}
 use Rattle.replay_disk.specs.Disk.{RackState}
+use Rattle.lab_text.specs.Given.{Gave}
 use Rattle.lab_text.specs.Lines.{lines_from}
 use Rattle.lab_text.specs.Readers.{coming, lines_given}
 use Rattle.lab_text.specs.Outcomes.{EndsReading}
-use Rattle.lab_text.specs.Script.{Ending, AtEnd, Outside, NotBuilt, Events}
+use Rattle.lab_text.specs.Script.{Ending, AtEnd, Outside, Events}
 use Rattle.lab_text.specs.declared.lines.LineReader.{LineReader}
+use Rattle.lab_text.specs.declared.node_lines.NodeLine.{NodeLine}
 use Rattle.lab_text.specs.declared.statuses.Status.{Status}
-use Rattle.lab_text.specs.declared.statuses.Status.TheVariants.{Done, Words, Line, ReadFault, WriteFault, Foreign, OtherShape, Memory, NoKey, Later}
+use Rattle.lab_text.specs.declared.statuses.Status.TheVariants.{Done, Words, Line, ReadFault, WriteFault, Foreign, OtherShape, Memory, NoKey}
 use Rattle.mix_shard.specs.Laws.{AllCover}
 use Rattle.mix_shard.specs.Shards.{ShardState}
 use Rattle.node_core.specs.Nodes.{AreShardsOf, IsNewNode, NodeState}
 use Rattle.node_core.specs.Steps.{place_of}
 use Rattle.node_core.specs.declared.setup.NodeSetup.{NodeSetup}
-use Rattle.mix_top.specs.Acts.{acts_of_all, first_acts}
-use Rattle.mix_top.specs.Headline.{AnswersScript, AreKnown, EachShard, EndsBefore, Headline, WasHeld}
-use Rattle.mix_top.specs.Program.{Program, no_node, program_from, set_up}
+use Rattle.mix_tools.specs.Suites.{meaning_for}
+use Rattle.mix_top.specs.Acts.{Act, acts_of_all, first_acts}
+use Rattle.mix_top.specs.Headline.{AnswersScript, AreKnown, EachShard, EndsBefore, Headline, IsGiven, WasHeld}
+use Rattle.mix_top.specs.Program.{Program, no_node, program_from, set_up, setup_of}
 use Rattle.mix_top.specs.Progress.{Answered, Answers, Driven, EndsAs, IsServed, Made, SetsUp, program_to_come}
+use Rattle.mix_top.specs.Report as report
 use Rattle.mix_top.specs.Report.{handed}
+use Rattle.mix_top.specs.Run.{Owes, Runs}
 use Rattle.mix_top.proofs.Covered.{covers_all}
 use Rattle.mix_top.proofs.Disks.{Follows, disks_of_all, known_first, owed_follows, run_arms, run_books, run_count, run_crashes, run_failures}
 use Rattle.mix_top.proofs.Giving.{gave_nothing}
@@ -31,52 +36,64 @@ use Rattle.mix_top.proofs.HonestLines.{run_honest}
 use Rattle.mix_top.proofs.Once.{ended_covered, run_covered, run_fresh, run_once, was_held_front}
 
 module _ (tells : Type 0) (suite : SuiteMeaning) (setup : NodeSetup) (old new : List RackState) (start end : NodeState) where
-  pub headline : (ciphertext : ℕ) (events : Option Events) (status : Status) (before after : Option (List ℕ)) → setup.shards ≤ length old → IsServed setup ciphertext
-      → IsNewNode setup (take setup.shards old) start → (answers : Answers tells suite events status start end before after)
-      → AreShardsOf tells suite setup end.shards → take setup.shards new ≡ map (λ shard. shard.rack) end.shards → drop setup.shards new ≡ drop setup.shards old
-      → Headline tells suite setup (set_up setup answers.whole).acts answers.whole.ending status before after old new
-  headline ciphertext events status before after enough served is_new answers kept racks unused =
+  -- of a run that ended where its acts led, or within the next
+  pub headline : (ciphertext : ℕ) (acts done rest : List Act) (said : List report.Line) (state : NodeState) (owes : List Act → NodeState → NodeState → Type 0)
+      (gives : List report.Line → Type 0) → setup.shards ≤ length old → IsServed setup ciphertext → IsNewNode setup (take setup.shards old) start → acts ≡ done ++ rest
+      → Runs tells suite start done said state → owes rest state end → Follows tells suite state end → gives said → AreShardsOf tells suite setup end.shards
+      → take setup.shards new ≡ map (λ shard. shard.rack) end.shards → drop setup.shards new ≡ drop setup.shards old
+      → Headline tells suite setup acts owes gives old new
+  headline ciphertext acts done rest said state owes gives enough served is_new all runs owed follows given kept racks unused =
       let first = take setup.shards old in
-      let follows = owed_follows tells suite answers.whole.ending status answers.rest answers.state end answers.owed in
-      let count = run_count tells suite setup first start is_new answers.done answers.said answers.state end answers.runs follows (length-take-le setup.shards old enough) in
+      let count = run_count tells suite setup first start is_new done said state end runs follows (length-take-le setup.shards old enough) in
       let books : AreKnown tells old → EachShard end _ =
-      λ known. run_books tells suite setup first start is_new answers.done answers.said answers.state end answers.runs follows (known_first tells setup.shards old known) kept in
+      λ known. run_books tells suite setup first start is_new done said state end runs follows (known_first tells setup.shards old known) kept in
       record {
         start = start;
         is_new = is_new;
-        done = answers.done;
-        rest = answers.rest;
-        all = ap (λ (s : NodeSetup). first_acts s.shards ++ acts_of_all s.shards answers.whole.list) (sym is_new.setup_is) ∙ answers.all;
-        said = answers.said;
-        state = answers.state;
-        runs = answers.runs;
+        done = done;
+        rest = rest;
+        all = all;
+        said = said;
+        state = state;
+        runs = runs;
         end = end;
-        owed = answers.owed;
-        given = answers.given;
-        once = λ known. run_once tells known.0 suite setup first start is_new (known_first tells setup.shards old known).1 answers.done answers.said answers.state answers.runs;
+        owed = owed;
+        given = given;
+        once = λ known. run_once tells known.0 suite setup first start is_new (known_first tells setup.shards old known).1 done said state runs;
         fresh = λ known. All-weaker (λ pair. ¬ WasHeld setup first pair) (λ pair. ¬ WasHeld setup old pair)
-            (λ pair no held. no (was_held_front setup old pair served.allowed.some held)) (handed answers.said)
-            (run_fresh tells known.0 suite setup first start is_new (known_first tells setup.shards old known).1 answers.done answers.said answers.state answers.runs);
-        honest = run_honest tells suite setup start first is_new served.times answers.done answers.said answers.state answers.runs;
+            (λ pair no held. no (was_held_front setup old pair served.allowed.some held)) (handed said)
+            (run_fresh tells known.0 suite setup first start is_new (known_first tells setup.shards old known).1 done said state runs);
+        honest = run_honest tells suite setup start first is_new served.times done said state runs;
         racks = racks;
         books = books;
-        lasting = λ known index shard there. covers_all setup index shard (handed answers.said) (books known index shard there)
+        lasting = λ known index shard there. covers_all setup index shard (handed said) (books known index shard there)
             (covered_in known follows index shard there);
-        failures = disks_of_all end setup.shards old _ count (run_failures tells suite setup first start is_new answers.done answers.said answers.state end answers.runs follows);
-        arms = disks_of_all end setup.shards old _ count (run_arms tells suite setup first start is_new answers.done answers.said answers.state end answers.runs follows);
-        crashes = disks_of_all end setup.shards old _ count (run_crashes tells suite setup first start is_new answers.done answers.said answers.state end answers.runs follows);
+        failures = disks_of_all end setup.shards old _ count (run_failures tells suite setup first start is_new done said state end runs follows);
+        arms = disks_of_all end setup.shards old _ count (run_arms tells suite setup first start is_new done said state end runs follows);
+        crashes = disks_of_all end setup.shards old _ count (run_crashes tells suite setup first start is_new done said state end runs follows);
         unused = unused;
       }
     where
       -- what was handed on is covered where the run came to
-      covered_in : AreKnown tells old → Follows tells suite answers.state end → (index : ℕ) (shard : ShardState) → slice_get end.shards index ≡ Some shard
-          → (pair : ℕ × List ℕ) → Contains (handed answers.said) pair → place_of setup pair.1 ≡ index → AllCover shard.state.journal pair
+      covered_in : AreKnown tells old → Follows tells suite state end → (index : ℕ) (shard : ShardState) → slice_get end.shards index ≡ Some shard
+          → (pair : ℕ × List ℕ) → Contains (handed said) pair → place_of setup pair.1 ≡ index → AllCover shard.state.journal pair
       covered_in known (inl same) index shard there =
-          run_covered tells known.0 suite setup (take setup.shards old) start is_new (known_first tells setup.shards old known).1 answers.done answers.said answers.state answers.runs
+          run_covered tells known.0 suite setup (take setup.shards old) start is_new (known_first tells setup.shards old known).1 done said state runs
           index shard (subst (λ (node : NodeState). slice_get node.shards index ≡ Some shard) same there)
       covered_in known (inr (act, stopped, ends)) index shard there =
-          ended_covered tells known.0 suite setup (take setup.shards old) start is_new (known_first tells setup.shards old known).1 answers.done answers.said answers.state answers.runs
+          ended_covered tells known.0 suite setup (take setup.shards old) start is_new (known_first tells setup.shards old known).1 done said state runs
           act stopped end ends index shard there
+
+  -- of events that were answered
+  pub events_headline : (ciphertext : ℕ) (events : Option Events) (status : Status) (before after : Option (List ℕ)) → setup.shards ≤ length old → IsServed setup ciphertext
+      → IsNewNode setup (take setup.shards old) start → (answers : Answers tells suite events status start end before after)
+      → AreShardsOf tells suite setup end.shards → take setup.shards new ≡ map (λ shard. shard.rack) end.shards → drop setup.shards new ≡ drop setup.shards old
+      → Headline tells suite setup (first_acts setup.shards ++ acts_of_all setup.shards answers.whole.list) (Owes tells suite answers.whole.ending status)
+      (λ said. Gave before after (λ bytes. IsGiven status said bytes)) old new
+  events_headline ciphertext events status before after enough served is_new answers kept racks unused =
+      headline ciphertext (first_acts setup.shards ++ acts_of_all setup.shards answers.whole.list) answers.done answers.rest answers.said answers.state _ _ enough served is_new
+      (ap (λ (s : NodeSetup). first_acts s.shards ++ acts_of_all s.shards answers.whole.list) (sym is_new.setup_is) ∙ answers.all)
+      answers.runs answers.owed (owed_follows tells suite answers.whole.ending status answers.rest answers.state end answers.owed) answers.given kept racks unused
 
 -- ---- the disks at return
 
@@ -110,7 +127,6 @@ all_returned {X = X} count old new taken others back is_first is_rest size is_ne
 -- no node stood when the script ended
 ends_before : (program : Program) (status : Status) → EndsReading status → EndsAs no_node program status → EndsBefore program status
 ends_before program (Line number) kind ended = ended
-ends_before program (Later number) kind ended = ended
 ends_before program ReadFault kind ended = tt
 ends_before program Memory kind ended = tt
 ends_before program Done kind ended = absurd kind
@@ -123,7 +139,6 @@ ends_before program (NoKey epoch) kind ended = absurd kind
 -- a script that ends so before its node is set up, where the source doesn't tell
 abbrev ending_before : Status → Ending
 ending_before (Line number) = Outside number
-ending_before (Later number) = NotBuilt number
 ending_before Done = AtEnd
 ending_before Words = AtEnd
 ending_before ReadFault = AtEnd
@@ -135,7 +150,6 @@ ending_before (NoKey epoch) = AtEnd
 
 ends_unset : (status : Status) → EndsReading status → EndsAs no_node (no_node (ending_before status)) status
 ends_unset (Line number) kind = refl
-ends_unset (Later number) kind = refl
 ends_unset ReadFault kind = tt
 ends_unset Memory kind = tt
 ends_unset Done kind = absurd kind
@@ -145,9 +159,9 @@ ends_unset (Foreign node shard area at) kind = absurd kind
 ends_unset (OtherShape node shard stored asked) kind = absurd kind
 ends_unset (NoKey epoch) kind = absurd kind
 
-module _ (tells : Type 0) (suite : SuiteMeaning) where
+module _ (tells : Type 0) where
   unset : (coming : Option Program) (program : Program) (status : Status) (given : Option (List ℕ)) (racks : List RackState) → IfSome coming (λ told. program ≡ told)
-      → EndsBefore program status → Answered tells suite coming status given given racks racks
+      → EndsBefore program status → Answered tells coming status given given racks racks
   unset coming program status given racks is why = record {
     program = program;
     of_source = is;
@@ -156,70 +170,72 @@ module _ (tells : Type 0) (suite : SuiteMeaning) where
 
   -- the node line wasn't read
   pub answered_unset : (coming : Option Program) (status : Status) (given : Option (List ℕ)) (racks : List RackState) → EndsReading status
-      → IfSome coming (λ program. EndsAs no_node program status) → Answered tells suite coming status given given racks racks
+      → IfSome coming (λ program. EndsAs no_node program status) → Answered tells coming status given given racks racks
   answered_unset None status given racks kind ended =
       unset None (no_node (ending_before status)) status given racks tt (ends_before (no_node (ending_before status)) status kind (ends_unset status kind))
   answered_unset (Some program) status given racks kind ended = unset (Some program) program status given racks refl (ends_before program status kind ended)
 
   -- memory ran out before there was a node
-  pub answered_unmade : (coming : Option Program) (given : Option (List ℕ)) (racks : List RackState) → Answered tells suite coming Memory given given racks racks
+  pub answered_unmade : (coming : Option Program) (given : Option (List ℕ)) (racks : List RackState) → Answered tells coming Memory given given racks racks
   answered_unmade None given racks = unset None (no_node AtEnd) Memory given racks tt tt
   answered_unmade (Some program) given racks = unset (Some program) program Memory given racks refl tt
 
-  program_is : (setup : NodeSetup) (coming : Option Program) (events : Option Events) (whole : Events) → SetsUp setup coming events → IfSome events (λ told. whole ≡ told)
-      → IfSome coming (λ told. set_up setup whole ≡ told)
-  program_is setup None events whole sets is = tt
-  program_is setup (Some program) None whole sets is = absurd sets
-  program_is setup (Some program) (Some events) whole sets is = ap (set_up setup) is ∙ sym sets
+  program_is : (node : NodeLine) (coming : Option Program) (events : Option Events) (whole : Events) → SetsUp node coming events → IfSome events (λ told. whole ≡ told)
+      → IfSome coming (λ told. set_up node whole ≡ told)
+  program_is node None events whole sets is = tt
+  program_is node (Some program) None whole sets is = absurd sets
+  program_is node (Some program) (Some events) whole sets is = ap (set_up node) is ∙ sym sets
 
-  answered_made : (setup : NodeSetup) (ciphertext : ℕ) (coming : Option Program) (events : Option Events) (status : Status) (before after : Option (List ℕ)) (old new back : List RackState)
-      → IsServed setup ciphertext → SetsUp setup coming events → Returned setup.shards old new back → Made tells suite setup events status before after (take setup.shards old) back
-      → Answered tells suite coming status before after old new
-  answered_made setup ciphertext coming events status before after old new back served sets returned made = record {
-    program = set_up setup made.answers.whole;
-    of_source = program_is setup coming events made.answers.whole sets made.answers.of_source;
+  answered_made : (node : NodeLine) (ciphertext : ℕ) (coming : Option Program) (events : Option Events) (status : Status) (before after : Option (List ℕ)) (old new back : List RackState)
+      → IsServed (setup_of node) ciphertext → SetsUp node coming events → Returned node.shards old new back
+      → Made tells (meaning_for node.ntru) (setup_of node) events status before after (take node.shards old) back
+      → Answered tells coming status before after old new
+  answered_made node ciphertext coming events status before after old new back served sets returned made = record {
+    program = set_up node made.answers.whole;
+    of_source = program_is node coming events made.answers.whole sets made.answers.of_source;
     answered = inr (
-      setup,
+      node,
       refl,
-      headline tells suite setup old new made.start made.end ciphertext events status before after returned.enough served made.is_new made.answers made.kept
-          (first_back setup.shards old new back returned ∙ made.racks) (others_back setup.shards old new back returned),
+      events_headline tells (meaning_for node.ntru) (setup_of node) old new made.start made.end ciphertext events status before after returned.enough served made.is_new made.answers
+          made.kept (first_back node.shards old new back returned ∙ made.racks) (others_back node.shards old new back returned),
     );
   }
 
-  answered_driven : (setup : NodeSetup) (ciphertext : ℕ) (coming : Option Program) (events : Option Events) (status : Status) (before after : Option (List ℕ)) (old new back : List RackState)
-      → IsServed setup ciphertext → SetsUp setup coming events → Returned setup.shards old new back → Driven tells suite setup events status before after (take setup.shards old) back
-      → Answered tells suite coming status before after old new
-  answered_driven setup ciphertext coming events status before after old new back served sets returned (inl unmade) =
-      subst (λ (s : Status). Answered tells suite coming s before after old new) (sym unmade.memory)
-      (subst (λ (g : Option (List ℕ)). Answered tells suite coming Memory before g old new) (sym unmade.given)
-      (subst (λ (racks : List RackState). Answered tells suite coming Memory before before old racks) (sym (all_back setup.shards old new back returned unmade.racks))
+  answered_driven : (node : NodeLine) (ciphertext : ℕ) (coming : Option Program) (events : Option Events) (status : Status) (before after : Option (List ℕ)) (old new back : List RackState)
+      → IsServed (setup_of node) ciphertext → SetsUp node coming events → Returned node.shards old new back
+      → Driven tells (meaning_for node.ntru) (setup_of node) events status before after (take node.shards old) back
+      → Answered tells coming status before after old new
+  answered_driven node ciphertext coming events status before after old new back served sets returned (inl unmade) =
+      subst (λ (s : Status). Answered tells coming s before after old new) (sym unmade.memory)
+      (subst (λ (g : Option (List ℕ)). Answered tells coming Memory before g old new) (sym unmade.given)
+      (subst (λ (racks : List RackState). Answered tells coming Memory before before old racks) (sym (all_back node.shards old new back returned unmade.racks))
       (answered_unmade coming before old)))
-  answered_driven setup ciphertext coming events status before after old new back served sets returned (inr made) =
-      answered_made setup ciphertext coming events status before after old new back served sets returned made
+  answered_driven node ciphertext coming events status before after old new back served sets returned (inr made) =
+      answered_made node ciphertext coming events status before after old new back served sets returned made
 
   -- the node was driven over the first of the disks, and these were put back in front of the others
-  pub answered_over : {X : Type 0} (state : X → RackState) (setup : NodeSetup) (ciphertext : ℕ) (coming : Option Program) (events : Option Events) (status : Status) (before after : Option (List ℕ))
-      (old new taken others back : List X) → IsServed setup ciphertext → SetsUp setup coming events → setup.shards ≤ length old → taken ≡ take setup.shards old
-      → others ≡ drop setup.shards old → length back ≡ length taken → new ≡ back ++ others
-      → Driven tells suite setup events status before after (map state taken) (map state back)
-      → Answered tells suite coming status before after (map state old) (map state new)
-  answered_over state setup ciphertext coming events status before after old new taken others back served sets enough is_first is_rest size is_new driven =
-      answered_driven setup ciphertext coming events status before after (map state old) (map state new) (map state back) served sets
+  pub answered_over : {X : Type 0} (state : X → RackState) (node : NodeLine) (ciphertext : ℕ) (coming : Option Program) (events : Option Events) (status : Status) (before after : Option (List ℕ))
+      (old new taken others back : List X) → IsServed (setup_of node) ciphertext → SetsUp node coming events → node.shards ≤ length old → taken ≡ take node.shards old
+      → others ≡ drop node.shards old → length back ≡ length taken → new ≡ back ++ others
+      → Driven tells (meaning_for node.ntru) (setup_of node) events status before after (map state taken) (map state back)
+      → Answered tells coming status before after (map state old) (map state new)
+  answered_over state node ciphertext coming events status before after old new taken others back served sets enough is_first is_rest size is_new driven =
+      answered_driven node ciphertext coming events status before after (map state old) (map state new) (map state back) served sets
       (record {
         enough = omega (arith, enough, length-map old state);
-        size = length-map back state ∙ size ∙ ap length is_first ∙ length-take-le setup.shards old enough;
+        size = length-map back state ∙ size ∙ ap length is_first ∙ length-take-le node.shards old enough;
         whole = ap (map state) is_new ∙ map-append state back others ∙ ap (λ (rest : List RackState). map state back ++ rest)
-            (ap (map state) is_rest ∙ sym (drop-map state setup.shards old));
+            (ap (map state) is_rest ∙ sym (drop-map state node.shards old));
       })
-      (subst (λ (racks : List RackState). Driven tells suite setup events status before after racks (map state back))
-      (ap (map state) is_first ∙ sym (take-map state setup.shards old)) driven)
+      (subst (λ (racks : List RackState). Driven tells (meaning_for node.ntru) (setup_of node) events status before after racks (map state back))
+      (ap (map state) is_first ∙ sym (take-map state node.shards old)) driven)
 
 -- the script that a source told was answered
-pub script_answered : (tells : Type 0) (suite : SuiteMeaning) (left : Option (List ℕ)) (status : Status) (before after : Option (List ℕ)) (old new : List RackState)
-    → Answered tells suite (option_map (program_from 1) (option_map (lines_from 0) left)) status before after old new
-    → AnswersScript tells suite left status before after old new
-script_answered tells suite None status before after old new is = record { program = is.program; of_source = tt; answered = is.answered }
-script_answered tells suite (Some script) status before after old new is = record { program = is.program; of_source = is.of_source; answered = is.answered }
+pub script_answered : (tells : Type 0) (left : Option (List ℕ)) (status : Status) (before after : Option (List ℕ)) (old new : List RackState)
+    → Answered tells (option_map (program_from 1) (option_map (lines_from 0) left)) status before after old new
+    → AnswersScript tells left status before after old new
+script_answered tells None status before after old new is = record { program = is.program; of_source = tt; answered = is.answered }
+script_answered tells (Some script) status before after old new is = record { program = is.program; of_source = is.of_source; answered = is.answered }
 
 -- at the start of a script the program to come is that of the whole script
 pub program_at_start : {I : Type 0} {G : Ghosts I} (reader : LineReader I G) (left : Option (List ℕ))

@@ -12,7 +12,7 @@ use Rattle.mix_shard.specs.declared.faults.RotateFault.{RotateFault}
 use Rattle.mix_shard.specs.declared.faults.RotateFault.TheVariants as rotation
 use Rattle.lab_text.specs.Statuses.{put_status}
 use Rattle.lab_text.specs.declared.statuses.Status.{Status}
-use Rattle.lab_text.specs.declared.statuses.Status.TheVariants.{Done, Words, Line, ReadFault, WriteFault, Foreign, OtherShape, Memory, NoKey, Later}
+use Rattle.lab_text.specs.declared.statuses.Status.TheVariants.{Done, Words, Line, ReadFault, WriteFault, Foreign, OtherShape, Memory, NoKey}
 use Rattle.node_core.specs.Nodes.{NodeState, shape_at}
 use Rattle.node_core.specs.declared.answers.Claimed.{Claimed}
 use Rattle.node_core.specs.declared.answers.Claimed.TheVariants as claimed
@@ -115,7 +115,6 @@ module _ (tells : Type 0) (suite : SuiteMeaning) where
   stops_at (Line number) act others old new is ends = absurd is
   stops_at ReadFault act others old new is ends = absurd is
   stops_at WriteFault act others old new is ends = absurd is
-  stops_at (Later number) act others old new is ends = absurd is
 
   -- ---- one act
 
@@ -155,7 +154,6 @@ module _ (tells : Type 0) (suite : SuiteMeaning) where
       empty_given (Foreign node shard area at) bytes none = none
       empty_given (OtherShape node shard stored asked) bytes none = none
       empty_given (NoKey epoch) bytes none = none
-      empty_given (Later number) bytes none = none
 
   -- ---- acts behind others
 
@@ -181,7 +179,6 @@ module _ (tells : Type 0) (suite : SuiteMeaning) where
   given_behind (Foreign node shard area at) said lines a b first second = joined_whole said lines a b first second
   given_behind (OtherShape node shard stored asked) said lines a b first second = joined_whole said lines a b first second
   given_behind (NoKey epoch) said lines a b first second = joined_whole said lines a b first second
-  given_behind (Later number) said lines a b first second = joined_whole said lines a b first second
 
   pub breaks_then : (acts others : List Act) (status : Status) (old between new : NodeState) (before middle after : Option (List ℕ)) → Goes tells suite acts old between before middle
       → Breaks tells suite others status between new middle after → Breaks tells suite (acts ++ others) status old new before after
@@ -221,7 +218,6 @@ module _ (tells : Type 0) (suite : SuiteMeaning) where
   stops_more Words rest others state end stops = absurd stops
   stops_more (Line number) rest others state end stops = absurd stops
   stops_more ReadFault rest others state end stops = absurd stops
-  stops_more (Later number) rest others state end stops = absurd stops
 
   -- the run ends before further acts
   pub breaks_before : (acts others : List Act) (status : Status) (old new : NodeState) (before after : Option (List ℕ)) → Breaks tells suite acts status old new before after

@@ -9,7 +9,7 @@ use Rattle.lab_text.specs.Script.{Ending, AtEnd, Outside, Events, ends, in_front
 use Rattle.lab_text.specs.declared.events.Event.{Event}
 use Rattle.lab_text.specs.declared.lines.LineReader.{LineReader}
 use Rattle.lab_text.specs.declared.statuses.Status.{Status}
-use Rattle.lab_text.specs.declared.statuses.Status.TheVariants.{Done, Words, Line, ReadFault, WriteFault, Foreign, OtherShape, Memory, NoKey, Later}
+use Rattle.lab_text.specs.declared.statuses.Status.TheVariants.{Done, Words, Line, ReadFault, WriteFault, Foreign, OtherShape, Memory, NoKey}
 use Rattle.node_core.specs.Nodes.{NodeState}
 use Rattle.node_core.specs.declared.setup.NodeSetup.{NodeSetup}
 use Rattle.mix_top.specs.Acts.{Act, Opens, acts_of, acts_of_all, first_acts, of_each}
@@ -71,7 +71,6 @@ owed_at_break tells suite ending Done rest others state end stops = absurd stops
 owed_at_break tells suite ending Words rest others state end stops = absurd stops
 owed_at_break tells suite ending (Line number) rest others state end stops = absurd stops
 owed_at_break tells suite ending ReadFault rest others state end stops = absurd stops
-owed_at_break tells suite ending (Later number) rest others state end stops = absurd stops
 
 -- where no further event was read
 owed_at_stop : (tells : Type 0) (suite : SuiteMeaning) (shards : ℕ) (status : Status) (rest : Events) (state : NodeState) → EndsEvents status → EndsAs ends rest status
@@ -87,7 +86,6 @@ owed_at_stop tells suite shards (Foreign node shard area at) rest state kind end
 owed_at_stop tells suite shards (OtherShape node shard stored asked) rest state kind ended = absurd kind
 owed_at_stop tells suite shards (NoKey epoch) rest state kind ended = absurd kind
 owed_at_stop tells suite shards Words rest state kind ended = absurd kind
-owed_at_stop tells suite shards (Later number) rest state kind ended = absurd kind
 
 given_at_stop : (status : Status) (said : List report.Line) (bytes : List ℕ) → bytes ≡ text said → IsGiven status said bytes
 given_at_stop WriteFault said bytes same = whole_text said bytes same
@@ -99,7 +97,6 @@ given_at_stop ReadFault said bytes same = same
 given_at_stop (Foreign node shard area at) said bytes same = same
 given_at_stop (OtherShape node shard stored asked) said bytes same = same
 given_at_stop (NoKey epoch) said bytes same = same
-given_at_stop (Later number) said bytes same = same
 
 -- how a script ends that a source doesn't tell, by the status
 abbrev ending_for : Status → Ending
@@ -112,7 +109,6 @@ ending_for (Foreign node shard area at) = AtEnd
 ending_for (OtherShape node shard stored asked) = AtEnd
 ending_for Memory = AtEnd
 ending_for (NoKey epoch) = AtEnd
-ending_for (Later number) = AtEnd
 
 ends_so : (status : Status) → EndsEvents status → EndsAs ends (ends (ending_for status)) status
 ends_so Done kind = refl
@@ -124,7 +120,6 @@ ends_so (Foreign node shard area at) kind = absurd kind
 ends_so (OtherShape node shard stored asked) kind = absurd kind
 ends_so (NoKey epoch) kind = absurd kind
 ends_so Words kind = absurd kind
-ends_so (Later number) kind = absurd kind
 
 -- ---- progress
 

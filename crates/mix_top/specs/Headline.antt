@@ -6,9 +6,10 @@ use Rattle.std.specs.Prelude.{◌≡◌, ◌⊎◌, ⊤, ℕ, ◌+◌, ◌-◌, 
 use Rattle.std.specs.List.{flat_map}
 use Rattle.mix_base.specs.Suites.{SuiteMeaning}
 use Rattle.lab_text.specs.Given.{Gave}
-use Rattle.lab_text.specs.Script.{Ending, Outside, NotBuilt}
+use Rattle.lab_text.specs.Script.{Outside}
+use Rattle.lab_text.specs.declared.node_lines.NodeLine.{NodeLine}
 use Rattle.lab_text.specs.declared.statuses.Status.{Status}
-use Rattle.lab_text.specs.declared.statuses.Status.TheVariants.{Line, ReadFault, WriteFault, Memory, Later}
+use Rattle.lab_text.specs.declared.statuses.Status.TheVariants.{Line, ReadFault, WriteFault, Memory}
 use Rattle.replay_disk.specs.Disk.{AreAtRest, RackState}
 use Rattle.spent_store.specs.Books.{IsCovered}
 use Rattle.spent_store.specs.Stores.{Left, OpensToOneOf, book_in, opened}
@@ -18,9 +19,10 @@ use Rattle.mix_shard.specs.Shards.{ShardState}
 use Rattle.node_core.specs.Nodes.{IsNewNode, NodeState, shape_at}
 use Rattle.node_core.specs.Steps.{place_of}
 use Rattle.node_core.specs.declared.setup.NodeSetup.{NodeSetup}
+use Rattle.mix_tools.specs.Suites.{meaning_for}
 use Rattle.mix_top.specs.Acts.{Act, Arms, Crashes}
 use Rattle.mix_top.specs.Honest.{IsHonest}
-use Rattle.mix_top.specs.Program.{Program, no_node, program_of}
+use Rattle.mix_top.specs.Program.{Program, no_node, program_of, setup_of}
 use Rattle.mix_top.specs.Report as report
 use Rattle.mix_top.specs.Report.{HandsOn, disk_lines, handed, text}
 use Rattle.mix_top.specs.Run.{Owes, Runs}
@@ -71,11 +73,12 @@ IsGiven WriteFault said given = (count : ℕ) × (given ≡ take count (text sai
 IsGiven Memory said given = (count : ℕ) × (given ≡ take count (text said))
 IsGiven _ said given = given ≡ text said
 
--- ---- the promise, for a script whose node is set up
+-- ---- the promise, for a node that is set up
 
--- A call that ends with this status answered a script of these acts, which ends so. `before` and `after` are what the sink
--- tells that it was given, `old` and `new` the disks at entry and at return.
-pub record Headline (tells : Type 0) (suite : SuiteMeaning) (setup : NodeSetup) (acts : List Act) (ending : Ending) (status : Status) (before after : Option (List ℕ)) (old new : List RackState) : Type 0 where
+-- A call had these acts done at a node. `owes` is what its status says of the acts that weren't done, of where the others
+-- led, and of where the run came to; `gives` is what it gave for a report; `old` and `new` are the disks at entry and at
+-- return.
+pub record Headline (tells : Type 0) (suite : SuiteMeaning) (setup : NodeSetup) (acts : List Act) (owes : List Act → NodeState → NodeState → Type 0) (gives : List report.Line → Type 0) (old new : List RackState) : Type 0 where
   -- for every script: a new node over the disks did the first of its acts, one after the other, and gave this report
   pub start : NodeState
   pub is_new : IsNewNode setup (take setup.shards old) start
@@ -87,9 +90,9 @@ pub record Headline (tells : Type 0) (suite : SuiteMeaning) (setup : NodeSetup) 
   pub runs : Runs tells suite start done said state
   -- how far it came, and where the run ended, is what the status says
   pub end : NodeState
-  pub owed : Owes tells suite ending status rest state end
-  -- where the sink tells, it was given the report's text
-  pub given : Gave before after (λ bytes. IsGiven status said bytes)
+  pub owed : owes rest state end
+  -- what was given is the report's text
+  pub given : gives said
   -- the report hands on at most one packet for each epoch key and replay tag, over all restarts, and none that a disk held
   pub once : AreKnown tells old → NoneTwice (handed said)
   pub fresh : AreKnown tells old → All (λ pair. ¬ WasHeld setup old pair) (handed said)
@@ -113,7 +116,6 @@ pub record Headline (tells : Type 0) (suite : SuiteMeaning) (setup : NodeSetup) 
 -- a script that ends before a node stands: at its node line, or where the source failed or memory ran out
 abbrev pub EndsBefore : Program → Status → Type 0
 EndsBefore program (Line number) = program ≡ no_node (Outside number)
-EndsBefore program (Later number) = program ≡ no_node (NotBuilt number)
 EndsBefore program ReadFault = ⊤
 EndsBefore program Memory = ⊤
 EndsBefore program _ = ⊥
@@ -124,18 +126,24 @@ pub record NoNode (program : Program) (status : Status) (before after : Option (
   pub given : Gave before after (λ bytes. bytes ≡ [])
   pub racks : new ≡ old
 
-abbrev pub AnswersProgram : Type 0 → SuiteMeaning → Program → Status → Option (List ℕ) → Option (List ℕ) → List RackState → List RackState → Type 0
-AnswersProgram tells suite program status before after old new =
+-- a node that stands by this line answered the script: with this status, and where the sink tells it was given the text
+abbrev pub AnswersNode : Type 0 → NodeLine → Program → Status → Option (List ℕ) → Option (List ℕ) → List RackState → List RackState → Type 0
+AnswersNode tells node program status before after old new =
+    let suite = meaning_for node.ntru in
+    Headline tells suite (setup_of node) program.acts (Owes tells suite program.ending status)
+    (λ said. Gave before after (λ bytes. IsGiven status said bytes)) old new
+
+abbrev pub AnswersProgram : Type 0 → Program → Status → Option (List ℕ) → Option (List ℕ) → List RackState → List RackState → Type 0
+AnswersProgram tells program status before after old new =
     NoNode program status before after old new
-    ⊎ ((setup : NodeSetup) × (program.setup ≡ Some setup)
-    × Headline tells suite setup program.acts program.ending status before after old new)
+    ⊎ ((node : NodeLine) × (program.node ≡ Some node) × AnswersNode tells node program status before after old new)
 
 -- the script that was answered is the source's, where that tells what is left of it
 abbrev pub IsScriptOf : Option (List ℕ) → Program → Type 0
 IsScriptOf None program = ⊤
 IsScriptOf (Some script) program = program ≡ program_of script
 
-pub record AnswersScript (tells : Type 0) (suite : SuiteMeaning) (left : Option (List ℕ)) (status : Status) (before after : Option (List ℕ)) (old new : List RackState) : Type 0 where
+pub record AnswersScript (tells : Type 0) (left : Option (List ℕ)) (status : Status) (before after : Option (List ℕ)) (old new : List RackState) : Type 0 where
   pub program : Program
   pub of_source : IsScriptOf left program
-  pub answered : AnswersProgram tells suite program status before after old new
+  pub answered : AnswersProgram tells program status before after old new

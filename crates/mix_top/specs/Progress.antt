@@ -6,11 +6,12 @@ use Rattle.mix_base.specs.Suites.{SuiteMeaning}
 use Rattle.epoch_keys.specs.Epochs.{InRange}
 use Rattle.lab_text.specs.Given.{Gave}
 use Rattle.lab_text.specs.Readers.{coming, lines_given}
-use Rattle.lab_text.specs.Script.{Ending, AtEnd, Outside, NotBuilt, Events, events_from, in_front}
+use Rattle.lab_text.specs.Script.{Ending, AtEnd, Outside, Events, events_from, in_front}
 use Rattle.lab_text.specs.declared.lines.LineReader.{LineReader}
 use Rattle.lab_text.specs.declared.events.Event.{Event}
+use Rattle.lab_text.specs.declared.node_lines.NodeLine.{NodeLine}
 use Rattle.lab_text.specs.declared.statuses.Status.{Status}
-use Rattle.lab_text.specs.declared.statuses.Status.TheVariants.{Done, Line, ReadFault, WriteFault, Foreign, OtherShape, Memory, NoKey, Later}
+use Rattle.lab_text.specs.declared.statuses.Status.TheVariants.{Done, Line, ReadFault, WriteFault, Foreign, OtherShape, Memory, NoKey}
 use Rattle.replay_disk.specs.Disk.{RackState}
 use Rattle.mix_shard.specs.Faults.{IsObjection, OfOpening}
 use Rattle.node_core.specs.declared.answers.Claimed.{Claimed}
@@ -128,7 +129,6 @@ program_to_come reader = option_map (program_from (lines_given reader + 1)) (com
 abbrev pub EndsAs : {X : Type 0} → (Ending → X) → X → Status → Type 0
 EndsAs stop input Done = input ≡ stop AtEnd
 EndsAs stop input (Line number) = input ≡ stop (Outside number)
-EndsAs stop input (Later number) = input ≡ stop (NotBuilt number)
 EndsAs stop input ReadFault = ⊤
 EndsAs stop input Memory = ⊤
 EndsAs stop input _ = ⊥
@@ -146,8 +146,8 @@ abbrev pub IsNext : ℕ × Event → Option Events → Option Events → Type 0
 IsNext event before after = IfSome before (λ now. IsSomeAnd after (λ others. now ≡ in_front event others))
 
 -- the node line of the program to come was read: the events behind it are to come
-abbrev pub SetsUp : NodeSetup → Option Program → Option Events → Type 0
-SetsUp setup before after = IfSome before (λ program. IsSomeAnd after (λ events. program ≡ set_up setup events))
+abbrev pub SetsUp : NodeLine → Option Program → Option Events → Type 0
+SetsUp node before after = IfSome before (λ program. IsSomeAnd after (λ events. program ≡ set_up node events))
 
 -- of all events these are still to come, and what stands before them is `done`
 pub record Follows (whole rest : Events) (done : List (ℕ × Event)) : Type 0 where
@@ -202,7 +202,7 @@ Driven tells suite setup events status before after old new =
 -- ---- the script as a whole
 
 -- the program to come was answered
-pub record Answered (tells : Type 0) (suite : SuiteMeaning) (coming : Option Program) (status : Status) (before after : Option (List ℕ)) (old new : List RackState) : Type 0 where
+pub record Answered (tells : Type 0) (coming : Option Program) (status : Status) (before after : Option (List ℕ)) (old new : List RackState) : Type 0 where
   pub program : Program
   pub of_source : IfSome coming (λ told. program ≡ told)
-  pub answered : AnswersProgram tells suite program status before after old new
+  pub answered : AnswersProgram tells program status before after old new

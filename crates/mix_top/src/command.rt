@@ -4,7 +4,8 @@
 ghost use Rattle.std.specs.Prelude.{◌≡◌, ◌≢◌, ◌↔◌, ◌≤◌, None, false, true, length, map, string_bytes};
 ghost use Rattle.mix_base.specs.Faults.{Rose};
 ghost use Rattle.lab_text.specs.Readers.{ReachesEnd};
-ghost use Rattle.mix_tools.specs.Answers.{AnswersCommand, EndsInput, EndsTool, ExplainsInput, IsReadBy, IsUnwritten};
+ghost use Rattle.mix_tools.specs.Answers.{AnswersCommand, EndsInput, EndsTool, ExplainsInput};
+ghost use Rattle.mix_tools.specs.Answers.{HasNoKey, IfKeyless, IsReadBy, IsUnwritten};
 ghost use Rattle.mix_tools.specs.Commands.{command_of};
 ghost use Rattle.mix_top.specs.Commands.{OnDrive, OnTool, names_drive};
 ghost use Rattle.mix_top.specs.Headline.{AnswersScript};
@@ -12,9 +13,8 @@ ghost use Rattle.mix_top.specs.Headline.{AnswersScript};
 use crate::bench::Bench;
 use crate::drive::drive;
 use lab_text::Status;
-use mix_base::{Sink, Source, Suite};
+use mix_base::{Sink, Source};
 use mix_tools::tool;
-use prim_std::LabSuite;
 use replay_disk::{CrashRack, Rack};
 use std::alloc::Global;
 
@@ -37,7 +37,7 @@ pub fn mix_command<I: Source, O: Sink, C: CrashRack, K: Rack>(
 
     // `drive`: the headline, of the script that the source tells, the report that the sink tells, and the disks.
     ensures headline { OnDrive (map string_bytes words.now)
-        (AnswersScript C.tells ⟦<LabSuite as Suite>⟧.meaning (I.left source.old) result
+        (AnswersScript C.tells (I.left source.old) result
         (O.given sink.old) (O.given sink.new) (map C.state bench.old.lab.items) (map C.state bench.new.lab.items)) }
     ensures end { OnDrive (map string_bytes words.now)
         (result ≡ Status.Done → ReachesEnd (I.left source.old) (I.left source.new)) }
@@ -47,13 +47,15 @@ pub fn mix_command<I: Source, O: Sink, C: CrashRack, K: Rack>(
     ensures kept { bench.new.kept ≡ bench.old.kept }
     ensures lab { length bench.new.lab.items ≡ 16 }
 
-    // The tools: where they are told, just the text that is owed is given, and none before the input's end. Line and
-    // Later have their cause whatever the sink tells.
+    // The tools: where they are told, just the text that is owed is given, and none before the input's end. Line
+    // and NoKey have their cause whatever the sink tells.
     ensures tool_text { OnTool (map string_bytes words.now) (λ command.
         AnswersCommand command (I.left source.old) (O.given sink.old) (O.given sink.new) result) }
     ensures tool_cause { OnTool (map string_bytes words.now) (λ command.
         ExplainsInput command (I.left source.old) result) }
     ensures tool_kind { OnTool (map string_bytes words.now) (λ command. EndsTool result) }
+    ensures tool_no_key { OnTool (map string_bytes words.now) (λ command.
+        IfKeyless result (HasNoKey command)) }
     ensures tool_unwritten { OnTool (map string_bytes words.now) (λ command.
         IsUnwritten result sink.old sink.new) }
     ensures tool_end { result ≡ Status.Done → OnTool (map string_bytes words.now) (λ command.

@@ -2,18 +2,22 @@
 // next act.
 ghost use Rattle.std.specs.Prelude.{◌≡◌, ◌≤◌, length, map, IsErrOf};
 ghost use Rattle.mix_base.specs.Faults.{Rose};
+ghost use Rattle.lab_text.specs.NodeLines.{IsNodeInRange};
 ghost use Rattle.lab_text.specs.Readers.{ReachesEnd, SourceGoesOn, source_of};
 ghost use Rattle.node_core.specs.Nodes.{AreShardsOf};
+ghost use Rattle.mix_tools.specs.Suites.{meaning_for, scheme_for};
 ghost use Rattle.mix_top.specs.Headline.{AnswersScript};
+ghost use Rattle.mix_top.specs.Program.{setup_of};
 ghost use Rattle.mix_top.specs.Progress.{Answered, Answers, Driven, IsKeptNode, IsServed, SinkGoesOn};
 ghost use Rattle.mix_top.specs.Progress.{events_to_come, program_to_come, status_of};
 
 use crate::bench::{give_back, take_racks};
-use crate::reading::{next_event, read_setup};
+use crate::reading::{next_event, read_first, setup_by};
 use crate::serving::{Round, go_round, serve};
-use lab_text::{LineReader, Status};
+use lab_text::{LineReader, NodeLine, Status};
 use mix_base::{Memory, Sink, Source, Suite};
 use node_core::{Node, NodeSetup};
+use ntru_prime::NtruSuite;
 use prim_std::LabSuite;
 use replay_disk::CrashRack;
 use std::alloc::Global;
@@ -27,7 +31,7 @@ pub fn drive<C: CrashRack, I: Source, O: Sink>(
     lab: &mut Vec<C>,
 ) -> Status
     requires { 16 ≤ length lab.old.items }
-    ensures report { AnswersScript C.tells ⟦<LabSuite as Suite>⟧.meaning (I.left source.old) result
+    ensures report { AnswersScript C.tells (I.left source.old) result
         (O.given sink.old) (O.given sink.new) (map C.state lab.old.items) (map C.state lab.new.items) }
     ensures lab { length lab.new.items ≡ length lab.old.items }
     ensures end { result ≡ Status.Done → ReachesEnd (I.left source.old) (I.left source.new) }
@@ -54,8 +58,8 @@ fn answer<C: CrashRack, I: Source, O: Sink>(
     lab: &mut Vec<C>,
 ) -> Result<(), Status>
     requires { 16 ≤ length lab.old.items }
-    ensures answered { Answered C.tells ⟦<LabSuite as Suite>⟧.meaning (program_to_come reader.old)
-        (status_of result) (O.given sink.old) (O.given sink.new)
+    ensures answered { Answered C.tells (program_to_come reader.old) (status_of result)
+        (O.given sink.old) (O.given sink.new)
         (map C.state lab.old.items) (map C.state lab.new.items) }
     ensures lab { length lab.new.items ≡ length lab.old.items }
     ensures end { status_of result ≡ Status.Done →
@@ -65,13 +69,44 @@ fn answer<C: CrashRack, I: Source, O: Sink>(
     ensures source { SourceGoesOn reader.old reader.new }
     ensures sink { SinkGoesOn result (O.faults sink.old) (O.faults sink.new) }
 {
-    let setup = read_setup(alloc, reader)?;
-    let Some(racks) = take_racks(alloc, lab, setup.shards) else {
+    let node = read_first(alloc, reader)?;
+    let Some(racks) = take_racks(alloc, lab, node.shards) else {
         return Err(Status::Memory);
     };
-    let (racks, answered) = answer_over::<C, LabSuite, I, O>(alloc, reader, sink, setup, racks);
+    let (racks, answered) = answer_by(alloc, reader, sink, &node, racks);
     give_back(lab, racks);
     answered
+}
+
+/// The events of the script at a node over these disks, of the suite that its line names.
+fn answer_by<C: CrashRack, I: Source, O: Sink>(
+    alloc: Global,
+    reader: &mut LineReader<I>,
+    sink: &mut O,
+    node: &NodeLine,
+    racks: Vec<C>,
+) -> (Vec<C>, Result<(), Status>)
+    requires in_range { IsNodeInRange node.now }
+    requires count { length racks.items ≡ node.now.shards }
+    ensures served { IsServed (setup_of node.now) (scheme_for node.now.ntru).ciphertext }
+    ensures driven { Driven C.tells (meaning_for node.now.ntru) (setup_of node.now)
+        (events_to_come node.now.shards reader.old)
+        (status_of result.1) (O.given sink.old) (O.given sink.new)
+        (map C.state racks.items) (map C.state result.0.items) }
+    ensures count { length result.0.items ≡ length racks.items }
+    ensures end { status_of result.1 ≡ Status.Done →
+        ReachesEnd (I.left (source_of reader.old)) (I.left (source_of reader.new)) }
+    ensures read_fault { IsErrOf result.1 Status.ReadFault →
+        Rose (I.faults (source_of reader.old)) (I.faults (source_of reader.new)) }
+    ensures source { SourceGoesOn reader.old reader.new }
+    ensures sink { SinkGoesOn result.1 (O.faults sink.old) (O.faults sink.new) }
+{
+    let setup = setup_by(node);
+    if node.ntru {
+        answer_over::<C, NtruSuite, I, O>(alloc, reader, sink, setup, racks)
+    } else {
+        answer_over::<C, LabSuite, I, O>(alloc, reader, sink, setup, racks)
+    }
 }
 
 /// The events of the script at a node over these disks, which come back in their order.

@@ -1,13 +1,13 @@
 // A script as it is read: the node line, and the events behind it.
-ghost use Rattle.std.specs.Prelude.{◌≡◌, ◌+◌, List, IfOk, IfErr, IfSome, IfNone, IsErrOf, IsSome};
+ghost use Rattle.std.specs.Prelude.{◌≡◌, ◌+◌, ◌≤◌, Bool, List, IfOk, IfErr, IfSome, IfNone, IsErrOf, IsSome};
 ghost use Rattle.mix_base.specs.Faults.{Rose};
-ghost use Rattle.prim_std.specs.Laboratory.{lab_scheme};
 ghost use Rattle.lab_text.specs.Events.{IsEventInRange};
 ghost use Rattle.lab_text.specs.Lines.{ScriptLine};
 ghost use Rattle.lab_text.specs.NodeLines.{IsNodeInRange, node_of};
 ghost use Rattle.lab_text.specs.Outcomes.{EndsReading};
 ghost use Rattle.lab_text.specs.Readers.{source_of, lines_given, ReachesEnd, SourceGoesOn};
 ghost use Rattle.lab_text.specs.Script.{ends, events_from};
+ghost use Rattle.mix_tools.specs.Suites.{scheme_for};
 ghost use Rattle.mix_top.specs.Program.{no_node, set_up, setup_of, with_node};
 ghost use Rattle.mix_top.specs.Progress.{EndsAs, EndsEvents, IsNext, IsServed, SetsUp, events_to_come, program_to_come};
 
@@ -15,6 +15,7 @@ use epoch_keys::Times;
 use lab_text::{Event, LineReader, NodeLine, Status, is_skipped, read_event, read_node};
 use mix_base::{Kem, Source};
 use node_core::NodeSetup;
+use ntru_prime::NtruKem;
 use prim_std::LabKem;
 use std::alloc::Global;
 
@@ -51,11 +52,11 @@ pub fn next_event<I: Source>(
     Ok(Some(event))
 }
 
-/// How the node is set up, by the first line that isn't skipped.
-pub fn read_setup<I: Source>(alloc: Global, reader: &mut LineReader<I>) -> Result<NodeSetup, Status>
-    ensures setup { IfOk result (λ setup.
-        SetsUp setup (program_to_come reader.old) (events_to_come setup.shards reader.new)) }
-    ensures served { IfOk result (λ setup. IsServed setup lab_scheme.ciphertext) }
+/// What the node line says, which is the first line that isn't skipped.
+pub fn read_first<I: Source>(alloc: Global, reader: &mut LineReader<I>) -> Result<NodeLine, Status>
+    ensures node { IfOk result (λ node.
+        SetsUp node (program_to_come reader.old) (events_to_come node.shards reader.new)) }
+    ensures in_range { IfOk result IsNodeInRange }
     ensures stops { IfErr result (λ status.
         IfSome (program_to_come reader.old) (λ program. EndsAs no_node program status)) }
     ensures kind { IfErr result EndsReading }
@@ -65,7 +66,7 @@ pub fn read_setup<I: Source>(alloc: Global, reader: &mut LineReader<I>) -> Resul
 {
     'lines: while let Some(line) = reader.next_line(alloc)? {
         if !is_skipped(line.as_slice()) {
-            return setup_in(line.as_slice(), reader.number());
+            return first_in(line.as_slice(), reader.number());
         }
     }
     Err(Status::Line {
@@ -73,37 +74,42 @@ pub fn read_setup<I: Source>(alloc: Global, reader: &mut LineReader<I>) -> Resul
     })
 }
 
-/// How the node is set up, by its line, of this number.
-fn setup_in(line: &[u8], number: u64) -> Result<NodeSetup, Status>
-    ensures setup { IfOk result (λ setup. (lines : List ScriptLine) →
-        with_node number (node_of line.now) lines ≡ set_up setup (events_from setup.shards (number + 1) lines)) }
-    ensures served { IfOk result (λ setup. IsServed setup lab_scheme.ciphertext) }
+/// What the node line says, of this number.
+fn first_in(line: &[u8], number: u64) -> Result<NodeLine, Status>
+    ensures node { IfOk result (λ node. (lines : List ScriptLine) →
+        with_node number (node_of line.now) lines
+        ≡ set_up node (events_from node.shards (number + 1) lines)) }
+    ensures in_range { IfOk result IsNodeInRange }
     ensures stops { IfErr result (λ status. (lines : List ScriptLine) →
         EndsAs no_node (with_node number (node_of line.now) lines) status) }
     ensures kind { IfErr result EndsReading }
     ensures no_read { IsErrOf result Status.ReadFault → ⊥ }
 {
-    let node = read_node(line, number)?;
-    if node.ntru {
-        return Err(Status::Later { line: number });
-    }
-    Ok(setup_by(&node))
+    Ok(read_node(line, number)?)
 }
 
 /// How the node of a node line is set up.
-fn setup_by(node: &NodeLine) -> NodeSetup
+pub fn setup_by(node: &NodeLine) -> NodeSetup
     requires in_range { IsNodeInRange node.now }
     ensures value { result ≡ setup_of node.now }
-    ensures served { IsServed result lab_scheme.ciphertext }
+    ensures served { IsServed result (scheme_for node.now.ntru).ciphertext }
 {
     let Ok(times) = Times::new(node.epoch, node.grace) else {
         unreachable!()
     };
     NodeSetup {
-        geo: node.sizes().geometry(LabKem::CT),
+        geo: node.sizes().geometry(ciphertext_size(node.ntru)),
         shards: node.shards,
         times,
         seed: node.seed,
         limit: LOG_LIMIT,
     }
+}
+
+/// The bytes of a ciphertext of the suite after sntrup4591761, or of the laboratory's.
+fn ciphertext_size(ntru: bool) -> usize
+    ensures value { result ≡ (scheme_for ntru).ciphertext }
+    ensures most { result ≤ 4096 }
+{
+    if ntru { NtruKem::CT } else { LabKem::CT }
 }

@@ -26,8 +26,8 @@ words_behind_tag (Reply recipient surb payload) = encode_lower recipient ∷ enc
 words_behind_tag (Damaged recipient) = encode_lower recipient ∷ []
 
 -- its kind, the number of its arrival, the epoch of the key that opened it, its tag, and what goes out
-abbrev pub hand_on_words : Item → List (List ℕ)
-hand_on_words item = kind_of item.out ∷ decimal item.number ∷ decimal item.epoch ∷ encode_lower item.tag ∷ words_behind_tag item.out
+abbrev pub hand_on_words : ℕ → ℕ → List ℕ → Out → List (List ℕ)
+hand_on_words number epoch tag out = kind_of out ∷ decimal number ∷ decimal epoch ∷ encode_lower tag ∷ words_behind_tag out
 
 abbrev pub hand_on_line : Item → List ℕ
-hand_on_line item = line_of (hand_on_words item)
+hand_on_line item = line_of (hand_on_words item.number item.epoch item.tag item.out)

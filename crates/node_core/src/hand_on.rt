@@ -4,7 +4,8 @@ ghost use Rattle.mix_base.specs.Faults.{Rose};
 ghost use Rattle.mix_base.specs.Writing.{GivesFront};
 ghost use Rattle.hex.specs.Hex.{encode_lower};
 ghost use Rattle.lab_text.specs.WordForms.{line_of};
-ghost use Rattle.node_core.specs.HandOn.{block_word, hand_on_line, kind_of, words_behind_tag};
+ghost use Rattle.node_core.specs.HandOn.{block_word, hand_on_line, hand_on_words};
+ghost use Rattle.node_core.specs.HandOn.{kind_of, words_behind_tag};
 
 use mix_base::{Bytes, PutFault, Sink, Suite};
 use mix_shard::Held;
@@ -26,7 +27,36 @@ pub fn write_held<O: Sink, S: Suite>(
         Rose (O.faults sink.old) (O.faults sink.new) }
     ensures count { O.faults sink.old ≤ O.faults sink.new }
 {
-    match held_text(alloc, held) {
+    write_hand_on(
+        alloc,
+        sink,
+        held.number(),
+        held.epoch(),
+        held.tag(),
+        held.out(),
+    )
+}
+
+/// Gives the line of a packet of which this is known, in the same way: the number of its arrival, the epoch, the tag, and
+/// what goes out.
+pub fn write_hand_on<O: Sink>(
+    alloc: Global,
+    sink: &mut O,
+    number: u64,
+    epoch: u64,
+    tag: &[u8; 32],
+    out: &Out,
+) -> Result<(), PutFault>
+    ensures whole { OnOk result (IfSome (O.given sink.old) (λ before. O.given sink.new ≡
+        Some (before ++ line_of (hand_on_words number epoch tag.now out.now)))) }
+    ensures front { OnErr result (IfSome (O.given sink.old) (λ before.
+        IsSomeAnd (O.given sink.new) (λ after.
+        GivesFront before after (line_of (hand_on_words number epoch tag.now out.now))))) }
+    ensures fault { IsErrOf result PutFault.WriteFault →
+        Rose (O.faults sink.old) (O.faults sink.new) }
+    ensures count { O.faults sink.old ≤ O.faults sink.new }
+{
+    match hand_on_text(alloc, number, epoch, tag, out) {
         Ok(text) => sink.put(alloc, text.as_bytes()),
         Err(_) => Err(PutFault::Memory),
     }
@@ -34,14 +64,19 @@ pub fn write_held<O: Sink, S: Suite>(
 
 /// The text of the line.
 #[tactic(auto, using(crate::proofs::HandOnLines::line_of_held))]
-fn held_text<S: Suite>(alloc: Global, held: &Held<S>) -> Result<String, AllocError>
-    ensures { IfOk result (λ text. string_bytes text ≡ hand_on_line held.now) }
+fn hand_on_text(
+    alloc: Global,
+    number: u64,
+    epoch: u64,
+    tag: &[u8; 32],
+    out: &Out,
+) -> Result<String, AllocError>
+    ensures { IfOk result (λ text.
+        string_bytes text ≡ line_of (hand_on_words number epoch tag.now out.now)) }
 {
-    let kind = kind_word(held.out());
-    let number = held.number();
-    let epoch = held.epoch();
-    let tag = hex::encode(alloc, held.tag().as_slice())?;
-    let tail = tail_text(alloc, held.out())?;
+    let kind = kind_word(out);
+    let tag = hex::encode(alloc, tag.as_slice())?;
+    let tail = tail_text(alloc, out)?;
     format!(in alloc; "{kind} {number} {epoch} {tag} {tail}")
 }
 

@@ -11,6 +11,6 @@ mod setup;
 mod tests;
 
 pub use answers::{Claimed, NodePeel, Peeled};
-pub use hand_on::write_held;
+pub use hand_on::{write_hand_on, write_held};
 pub use node::Node;
 pub use setup::NodeSetup;

@@ -1,6 +1,8 @@
 // A node of two shards over racks in memory, for the laboratory suite.
 ghost use Rattle.std.specs.Prelude.{◌≡◌, IfOk};
 
+mod keyless;
+
 use crate::{Claimed, Node, NodeSetup, Peeled, write_held};
 use epoch_keys::{Times, epoch_pair};
 use mix_base::{Bytes, MemSink, PutFault};

@@ -44,7 +44,7 @@ fn filled(alloc: Global, text: &str) -> Result<String, Fail> {
 }
 
 /// What a command writes for an input; the words of the command are joined by spaces.
-fn written(rt: &impl Abort, alloc: Global, command: &str, input: &str) -> Result<String, Fail> {
+pub fn written(rt: &impl Abort, alloc: Global, command: &str, input: &str) -> Result<String, Fail> {
     let mut words = Vec::new(alloc);
     for word in command.split(' ') {
         words.push(String::from_str(alloc, word)?)?;
@@ -58,7 +58,7 @@ fn written(rt: &impl Abort, alloc: Global, command: &str, input: &str) -> Result
 }
 
 /// A word of a line, both counted from 0.
-fn word_at(alloc: Global, text: &str, line: u64, place: u64) -> Result<String, Fail> {
+pub fn word_at(alloc: Global, text: &str, line: u64, place: u64) -> Result<String, Fail> {
     let source = MemSource::new(text.as_bytes().to_vec(alloc)?, Vec::new(alloc));
     let mut reader = LineReader::new(alloc, source);
     for _ in 0..line {

@@ -305,12 +305,6 @@ fn workers_and_ends(rt: HostRuntime) -> Result<(), Fail> {
             ),
             ("an empty script", "", Status::Line { line: 1 }, ""),
             (
-                "the other suite",
-                "node ntru 5 64 1 1200000 120000 0000000000000000000000000000000000000000000000000000000000000000\n",
-                Status::Later { line: 1 },
-                "",
-            ),
-            (
                 "a rotation outside the grammar",
                 "N\nrotate x\n",
                 Status::Line { line: 2 },

@@ -1,7 +1,7 @@
 use Rattle.std.proofs.Common.{◌≡◌, Option, IfSome, Err, subst}
 use Rattle.lab_text.specs.Outcomes.{Outcome, Says, Reads}
 use Rattle.mix_tools.specs.declared.requests.Request.{Request}
-use Rattle.mix_tools.proofs.AnsweredRequests.{request_at_start, answers_from_stop, answers_from_request, explained_from_stop, explained_from_request, ends_tool}
+use Rattle.mix_tools.proofs.AnsweredRequests.{request_at_start, answers_from_stop, answers_from_request, explained_from_stop, explained_from_request, ends_tool, keyed_reading}
 use Rattle.mix_tools.proofs.tools.answer_request.Goals as goal
 
 pub returns-in-Err-clause-text : goal.returns-in-Err-clause-text
@@ -34,3 +34,6 @@ returns-in-Ok-clause-cause g c =
 
 pub returns-in-Err-clause-kind : goal.returns-in-Err-clause-kind
 returns-in-Err-clause-kind g c = ends_tool c.in-Err.status c.in-Err.ensures.kind
+
+pub returns-in-Err-clause-keyed : goal.returns-in-Err-clause-keyed
+returns-in-Err-clause-keyed g c = keyed_reading c.in-Err.status c.in-Err.ensures.kind

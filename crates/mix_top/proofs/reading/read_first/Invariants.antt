@@ -1,7 +1,7 @@
 use Rattle.std.proofs.Common.{◌≡◌, ◌+◌, ◌-◌, ◌^◌, Some, IfSome}
 use Rattle.lab_text.specs.Readers.{SourceGoesOn, lines_given}
 use Rattle.mix_top.specs.Progress.{program_to_come}
-use Rattle.mix_top.proofs.reading.read_setup.Given as goal
+use Rattle.mix_top.proofs.reading.read_first.Given as goal
 
 -- only skipped lines were read, so the program to come is still the same
 abbrev pub invariant-lines : goal.invariant-lines
