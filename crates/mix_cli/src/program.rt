@@ -10,8 +10,10 @@ ghost use Rattle.lab_text.specs.Statuses.{code_of, status_text};
 ghost use Rattle.mix_tools.specs.Answers.{AnswersCommand, EndsInput, EndsTool, ExplainsInput};
 ghost use Rattle.mix_tools.specs.Answers.{HasNoKey, IfKeyless, IsReadBy, IsUnwritten};
 ghost use Rattle.mix_tools.specs.Commands.{command_of};
-ghost use Rattle.mix_top.specs.Commands.{OnDrive, OnTool, names_drive};
+ghost use Rattle.mix_top.specs.Commands.{OnDrive, OnStorm, OnTool, names_drive};
 ghost use Rattle.mix_top.specs.Headline.{AnswersScript};
+ghost use Rattle.mix_top.specs.Storm.{storm_of};
+ghost use Rattle.mix_top.specs.StormHeadline.{AnswersStorm};
 ghost use Rattle.mix_cli.specs.Program.{OnWords, ReadsArgs};
 
 use lab_text::{Status, code, write_status};
@@ -62,14 +64,19 @@ pub fn run<I: Source, O: Sink, E: Sink, C: CrashRack, K: Rack>(
 
     // The rest is what `mix_command` promises at these words.
     ensures forms { OnWords result.words (λ words. (result.status ≡ Status.Words) ↔
-        ((names_drive words ≡ false) × (command_of words ≡ None))) }
+        ((names_drive words ≡ false) × (storm_of words ≡ None) × (command_of words ≡ None))) }
     ensures untouched { result.status ≡ Status.Words →
         (source.new ≡ source.old) × (sink.new ≡ sink.old) }
     ensures headline { OnWords result.words (λ words. OnDrive words
         (AnswersScript C.tells (I.left source.old) result.status (O.given sink.old) (O.given sink.new)
         (map C.state bench.old.lab.items) (map C.state bench.new.lab.items))) }
+    ensures storm { OnWords result.words (λ words. OnStorm words (λ named.
+        AnswersStorm C.tells named result.status (O.given sink.old) (O.given sink.new)
+        (map C.state bench.old.lab.items) (map C.state bench.new.lab.items))) }
+    ensures storm_reads_nothing { OnWords result.words (λ words. OnStorm words (λ named.
+        source.new ≡ source.old)) }
     ensures bench { OnWords result.words (λ words.
-        names_drive words ≡ false → bench.new ≡ bench.old) }
+        names_drive words ≡ false → storm_of words ≡ None → bench.new ≡ bench.old) }
     ensures end { OnWords result.words (λ words. OnDrive words
         (result.status ≡ Status.Done → ReachesEnd (I.left source.old) (I.left source.new))) }
     ensures tool_text { OnWords result.words (λ words. OnTool words (λ command.

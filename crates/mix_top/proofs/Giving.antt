@@ -1,29 +1,14 @@
--- What a sink was given: nothing, one text behind another, a front.
-use Rattle.std.proofs.Common.{◌≡◌, ℕ, ◌+◌, List, [], ◌∷◌, ◌++◌, length, take, refl, ap, ◌∙◌, sym, append_assoc, Option, Some, None, IfSome, IsSomeAnd}
-use Rattle.std.proofs.Math.Seq.{take-append-add, take-length}
+-- What a sink was given by one line, whole or in part.
+use Rattle.std.proofs.Common.{◌≡◌, ℕ, List, [], ◌∷◌, ◌++◌, take, ap, sym, subst, Option, Some, None, IfSome, IsSomeAnd}
 use Rattle.std.proofs.lemmas.List.{append-nil}
-use Rattle.std.proofs.lemmas.Grind.{flat_map-append}
 use Rattle.mix_base.specs.Writing.{GivesFront}
-use Rattle.lab_text.specs.Given.{Gave}
-use Rattle.mix_top.specs.Progress.{GaveFront, GaveText}
-use Rattle.mix_top.specs.Report.{Line, line_text, text}
-
-pub gave_nothing : (given : Option (List ℕ)) → Gave given given (λ bytes. bytes ≡ [])
-gave_nothing None = tt
-gave_nothing (Some first) = ([], sym (append-nil first), refl)
-
-pub gave_weaker : (before after : Option (List ℕ)) (P Q : List ℕ → Type 0) → Gave before after P → ((bytes : List ℕ) → P bytes → Q bytes) → Gave before after Q
-gave_weaker None after P Q gave weaker = tt
-gave_weaker (Some first) None P Q gave weaker = gave
-gave_weaker (Some first) (Some last) P Q (bytes, behind, holds) weaker = (bytes, behind, weaker bytes holds)
-
-pub gave_then : (before between after : Option (List ℕ)) (P Q R : List ℕ → Type 0) → Gave before between P → Gave between after Q
-    → ((a b : List ℕ) → P a → Q b → R (a ++ b)) → Gave before after R
-gave_then None between after P Q R first second joined = tt
-gave_then (Some start) None after P Q R first second joined = absurd first
-gave_then (Some start) (Some middle) None P Q R first second joined = absurd second
-gave_then (Some start) (Some middle) (Some last) P Q R (a, at_a, is_a) (b, at_b, is_b) joined =
-    (a ++ b, at_b ∙ ap (λ (bytes : List ℕ). bytes ++ b) at_a ∙ append_assoc start a b, joined a b is_a is_b)
+use Rattle.sphinx_unwrap.specs.declared.outcome.Out.{Out}
+use Rattle.lab_text.specs.WordForms.{line_of}
+use Rattle.mix_shard.specs.Items.{Item}
+use Rattle.node_core.specs.HandOn.{hand_on_line, hand_on_words}
+use Rattle.mix_top.specs.Receiving.{GaveFront, GaveText, IsSaidOf}
+use Rattle.mix_top.specs.ReceivingLaws.{gave_nothing, gave_weaker}
+use Rattle.mix_top.specs.Report.{HandsOn, Line, line_text, text}
 
 -- what a put says, as what was given
 pub put_whole : (before after : Option (List ℕ)) (line : Line) → IfSome before (λ first. after ≡ Some (first ++ line_text line)) → GaveText before after (line ∷ [])
@@ -44,21 +29,22 @@ pub gave_no_front : (given : Option (List ℕ)) (lines : List Line) → GaveFron
 gave_no_front given lines =
     gave_weaker given given (λ bytes. bytes ≡ []) (λ bytes. (count : ℕ) × (bytes ≡ take count (text lines))) (gave_nothing given) (λ bytes none. (0, none))
 
-pub text-append : (said lines : List Line) → text (said ++ lines) ≡ text said ++ text lines
-text-append said lines = flat_map-append line_text said lines
+-- ---- the line of a packet that is handed on, by what it says
 
--- a whole text is a front of itself, and a front behind a whole one is a front of both
-pub whole_text : (said : List Line) (bytes : List ℕ) → bytes ≡ text said → (count : ℕ) × (bytes ≡ take count (text said))
-whole_text said bytes same = (length (text said), same ∙ sym (take-length (text said)))
+said_line : (item : Item) (number epoch : ℕ) (tag : List ℕ) (out : Out) → IsSaidOf item number epoch tag out
+    → line_of (hand_on_words number epoch tag out) ≡ hand_on_line item
+said_line item number epoch tag out said = λ i. line_of (hand_on_words (sym said.number_is i) (sym said.epoch_is i) (sym said.tag_is i) (sym said.out_is i))
 
-pub joined_whole : (said lines : List Line) (a b : List ℕ) → a ≡ text said → b ≡ text lines → a ++ b ≡ text (said ++ lines)
-joined_whole said lines a b first second =
-    ap (λ (bytes : List ℕ). bytes ++ b) first ∙ ap (λ (bytes : List ℕ). text said ++ bytes) second ∙ sym (text-append said lines)
+pub hand_on_whole : (before after : Option (List ℕ)) (number epoch : ℕ) (tag : List ℕ) (out : Out)
+    → IfSome before (λ first. after ≡ Some (first ++ line_of (hand_on_words number epoch tag out)))
+    → (item : Item) → IsSaidOf item number epoch tag out → GaveText before after (HandsOn item ∷ [])
+hand_on_whole before after number epoch tag out whole item said =
+    put_whole before after (HandsOn item)
+    (subst (λ (line : List ℕ). IfSome before (λ first. after ≡ Some (first ++ line))) (said_line item number epoch tag out said) whole)
 
-pub joined_front : (said lines : List Line) (a b : List ℕ) → a ≡ text said → (count : ℕ) × (b ≡ take count (text lines))
-    → (count : ℕ) × (a ++ b ≡ take count (text (said ++ lines)))
-joined_front said lines a b whole (count, front) = (
-  length (text said) + count,
-  ap (λ (bytes : List ℕ). bytes ++ b) whole ∙ ap (λ (bytes : List ℕ). text said ++ bytes) front ∙ sym (take-append-add (text said) (text lines) count)
-      ∙ ap (take (length (text said) + count)) (sym (text-append said lines)),
-)
+pub hand_on_front : (before after : Option (List ℕ)) (number epoch : ℕ) (tag : List ℕ) (out : Out)
+    → IfSome before (λ first. IsSomeAnd after (λ last. GivesFront first last (line_of (hand_on_words number epoch tag out))))
+    → (item : Item) → IsSaidOf item number epoch tag out → GaveFront before after (HandsOn item ∷ [])
+hand_on_front before after number epoch tag out front item said =
+    put_front before after (HandsOn item)
+    (subst (λ (line : List ℕ). IfSome before (λ first. IsSomeAnd after (λ last. GivesFront first last line))) (said_line item number epoch tag out said) front)

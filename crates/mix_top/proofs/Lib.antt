@@ -1,4 +1,6 @@
 mod ActAnswers
+mod Brevity
+mod CommandWords
 mod Covered
 mod Disks
 mod Empty
@@ -9,4 +11,9 @@ mod Once
 mod Promise
 mod Runs
 mod ServedActs
+mod StormCounts
+mod StormPackets
+mod StormPromise
+mod StormRuns
+mod Taking
 mod Tracking

@@ -31,7 +31,7 @@ use Rattle.mix_top.specs.Report.{handed}
 use Rattle.mix_top.specs.Run.{Owes, Runs}
 use Rattle.mix_top.proofs.Covered.{covers_all}
 use Rattle.mix_top.proofs.Disks.{Follows, disks_of_all, known_first, owed_follows, run_arms, run_books, run_count, run_crashes, run_failures}
-use Rattle.mix_top.proofs.Giving.{gave_nothing}
+use Rattle.mix_top.specs.ReceivingLaws.{gave_nothing}
 use Rattle.mix_top.proofs.HonestLines.{run_honest}
 use Rattle.mix_top.proofs.Once.{ended_covered, run_covered, run_fresh, run_once, was_held_front}
 
@@ -98,20 +98,33 @@ module _ (tells : Type 0) (suite : SuiteMeaning) (setup : NodeSetup) (old new : 
 -- ---- the disks at return
 
 -- the disks of the node come back in front of the others
-record Returned (count : ℕ) (old new back : List RackState) : Type 0 where
-  enough : count ≤ length old
-  size : length back ≡ count
-  whole : new ≡ back ++ drop count old
+pub record Returned (count : ℕ) (old new back : List RackState) : Type 0 where
+  pub enough : count ≤ length old
+  pub size : length back ≡ count
+  pub whole : new ≡ back ++ drop count old
 
-first_back : (count : ℕ) (old new back : List RackState) → Returned count old new back → take count new ≡ back
+-- those that were taken from the front, and others that were put back there
+pub returned : {X : Type 0} (state : X → RackState) (count : ℕ) (old new taken others back : List X) → count ≤ length old → taken ≡ take count old
+    → others ≡ drop count old → length back ≡ length taken → new ≡ back ++ others → Returned count (map state old) (map state new) (map state back)
+returned state count old new taken others back enough is_first is_rest size is_new = record {
+  enough = omega (arith, enough, length-map old state);
+  size = length-map back state ∙ size ∙ ap length is_first ∙ length-take-le count old enough;
+  whole = ap (map state) is_new ∙ map-append state back others ∙ ap (λ (rest : List RackState). map state back ++ rest) (ap (map state) is_rest ∙ sym (drop-map state count old));
+}
+
+-- the states of those that were taken are the first
+pub taken_states : {X : Type 0} (state : X → RackState) (count : ℕ) (old taken : List X) → taken ≡ take count old → map state taken ≡ take count (map state old)
+taken_states state count old taken is_first = ap (map state) is_first ∙ sym (take-map state count old)
+
+pub first_back : (count : ℕ) (old new back : List RackState) → Returned count old new back → take count new ≡ back
 first_back count old new back is =
     ap (take count) is.whole ∙ ap (λ (n : ℕ). take n (back ++ drop count old)) (sym is.size) ∙ take-append_seam back (drop count old)
 
-others_back : (count : ℕ) (old new back : List RackState) → Returned count old new back → drop count new ≡ drop count old
+pub others_back : (count : ℕ) (old new back : List RackState) → Returned count old new back → drop count new ≡ drop count old
 others_back count old new back is =
     ap (drop count) is.whole ∙ ap (λ (n : ℕ). drop n (back ++ drop count old)) (sym is.size) ∙ drop-append_seam back (drop count old)
 
-all_back : (count : ℕ) (old new back : List RackState) → Returned count old new back → back ≡ take count old → new ≡ old
+pub all_back : (count : ℕ) (old new back : List RackState) → Returned count old new back → back ≡ take count old → new ≡ old
 all_back count old new back is same = is.whole ∙ ap (λ (first : List RackState). first ++ drop count old) same ∙ take-append-drop count old
 
 -- as many as there were
@@ -221,14 +234,9 @@ module _ (tells : Type 0) where
       → Answered tells coming status before after (map state old) (map state new)
   answered_over state node ciphertext coming events status before after old new taken others back served sets enough is_first is_rest size is_new driven =
       answered_driven node ciphertext coming events status before after (map state old) (map state new) (map state back) served sets
-      (record {
-        enough = omega (arith, enough, length-map old state);
-        size = length-map back state ∙ size ∙ ap length is_first ∙ length-take-le node.shards old enough;
-        whole = ap (map state) is_new ∙ map-append state back others ∙ ap (λ (rest : List RackState). map state back ++ rest)
-            (ap (map state) is_rest ∙ sym (drop-map state node.shards old));
-      })
+      (returned state node.shards old new taken others back enough is_first is_rest size is_new)
       (subst (λ (racks : List RackState). Driven tells (meaning_for node.ntru) (setup_of node) events status before after racks (map state back))
-      (ap (map state) is_first ∙ sym (take-map state node.shards old)) driven)
+      (taken_states state node.shards old taken is_first) driven)
 
 -- the script that a source told was answered
 pub script_answered : (tells : Type 0) (left : Option (List ℕ)) (status : Status) (before after : Option (List ℕ)) (old new : List RackState)

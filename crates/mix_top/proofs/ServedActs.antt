@@ -20,14 +20,13 @@ use Rattle.node_core.specs.declared.answers.NodePeel.{NodePeel}
 use Rattle.node_core.specs.declared.answers.NodePeel.TheVariants as node_peel
 use Rattle.node_core.specs.declared.setup.NodeSetup.{NodeSetup}
 use Rattle.mix_top.specs.Acts.{Act, Opens, Reopens, Receives, Peels, Claims, Sends, Rotates, Arms, Crashes, of_each}
-use Rattle.mix_top.specs.Headline.{IsGiven}
-use Rattle.mix_top.specs.Progress.{Breaks, GaveFront, GaveText, Goes, Serves, Stops}
+use Rattle.mix_top.specs.Progress.{Breaks, Goes, Serves, Stops, TakenOf}
+use Rattle.mix_top.specs.Receiving.{TakesInTurn}
 use Rattle.mix_top.specs.Report as report
-use Rattle.mix_top.specs.Report.{text}
 use Rattle.mix_top.specs.Run.{EndsNext}
 use Rattle.mix_top.specs.Steps.{Does, Ends, ends_claim, ends_denied, ends_opening, ends_peeling, ends_rotation}
-use Rattle.mix_top.proofs.Giving.{gave_nothing, gave_then, gave_weaker, joined_front, joined_whole}
 use Rattle.mix_top.proofs.Runs.{Runs-append, Runs-one}
+use Rattle.mix_top.proofs.Taking.{taken_behind, taken_whole}
 
 -- ---- how an act may end a run: by a journal, a key, or want of memory
 
@@ -116,91 +115,7 @@ module _ (tells : Type 0) (suite : SuiteMeaning) where
   stops_at ReadFault act others old new is ends = absurd is
   stops_at WriteFault act others old new is ends = absurd is
 
-  -- ---- one act
-
-  pub goes_one : (act : Act) (lines : List report.Line) (old new : NodeState) (before after : Option (List ℕ)) → Does tells suite act lines old new
-      → GaveText before after lines → Goes tells suite (act ∷ []) old new before after
-  goes_one act lines old new before after does given = record { said = lines; runs = Runs-one tells suite act old new lines does; given = given }
-
-  -- its line was given in part, or not at all
-  pub breaks_cut : (act : Act) (lines : List report.Line) (fault : PutFault) (old new : NodeState) (before after : Option (List ℕ)) → Does tells suite act lines old new
-      → GaveFront before after lines → Breaks tells suite (act ∷ []) (put_status fault) old new before after
-  breaks_cut act lines puts.WriteFault old new before after does front =
-      record { done = act ∷ []; rest = []; all = refl; said = lines; state = new; runs = Runs-one tells suite act old new lines does; stops = refl; given = front }
-  breaks_cut act lines puts.Memory old new before after does front =
-      record { done = act ∷ []; rest = []; all = refl; said = lines; state = new; runs = Runs-one tells suite act old new lines does; stops = inl refl; given = front }
-
-  -- it ended the run
-  pub breaks_ended : (act : Act) (status : Status) (old new : NodeState) (given : Option (List ℕ)) → Ends tells suite act status old new
-      → Breaks tells suite (act ∷ []) status old new given given
-  breaks_ended act status old new given ends = record {
-    done = [];
-    rest = act ∷ [];
-    all = refl;
-    said = [];
-    state = old;
-    runs = (refl, refl);
-    stops = stops_at status act [] old new (act_end act status old new ends) ends;
-    given = gave_weaker given given (λ bytes. bytes ≡ []) (λ bytes. IsGiven status [] bytes) (gave_nothing given) (λ bytes none. empty_given status bytes none);
-  }
-    where
-      empty_given : (status : Status) (bytes : List ℕ) → bytes ≡ [] → IsGiven status [] bytes
-      empty_given WriteFault bytes none = (0, none)
-      empty_given Memory bytes none = (0, none)
-      empty_given Done bytes none = none
-      empty_given Words bytes none = none
-      empty_given (Line number) bytes none = none
-      empty_given ReadFault bytes none = none
-      empty_given (Foreign node shard area at) bytes none = none
-      empty_given (OtherShape node shard stored asked) bytes none = none
-      empty_given (NoKey epoch) bytes none = none
-
-  -- ---- acts behind others
-
-  pub goes_nowhere : (node : NodeState) (given : Option (List ℕ)) → Goes tells suite [] node node given given
-  goes_nowhere node given = record { said = []; runs = (refl, refl); given = gave_nothing given }
-
-  pub goes_then : (acts others : List Act) (old between new : NodeState) (before middle after : Option (List ℕ)) → Goes tells suite acts old between before middle
-      → Goes tells suite others between new middle after → Goes tells suite (acts ++ others) old new before after
-  goes_then acts others old between new before middle after first second = record {
-    said = first.said ++ second.said;
-    runs = Runs-append tells suite acts others old between new first.said second.said first.runs second.runs;
-    given = gave_then before middle after (λ bytes. bytes ≡ text first.said) (λ bytes. bytes ≡ text second.said) (λ bytes. bytes ≡ text (first.said ++ second.said))
-        first.given second.given (joined_whole first.said second.said);
-  }
-
-  given_behind : (status : Status) (said lines : List report.Line) (a b : List ℕ) → a ≡ text said → IsGiven status lines b → IsGiven status (said ++ lines) (a ++ b)
-  given_behind WriteFault said lines a b first second = joined_front said lines a b first second
-  given_behind Memory said lines a b first second = joined_front said lines a b first second
-  given_behind Done said lines a b first second = joined_whole said lines a b first second
-  given_behind Words said lines a b first second = joined_whole said lines a b first second
-  given_behind (Line number) said lines a b first second = joined_whole said lines a b first second
-  given_behind ReadFault said lines a b first second = joined_whole said lines a b first second
-  given_behind (Foreign node shard area at) said lines a b first second = joined_whole said lines a b first second
-  given_behind (OtherShape node shard stored asked) said lines a b first second = joined_whole said lines a b first second
-  given_behind (NoKey epoch) said lines a b first second = joined_whole said lines a b first second
-
-  pub breaks_then : (acts others : List Act) (status : Status) (old between new : NodeState) (before middle after : Option (List ℕ)) → Goes tells suite acts old between before middle
-      → Breaks tells suite others status between new middle after → Breaks tells suite (acts ++ others) status old new before after
-  breaks_then acts others status old between new before middle after first second = record {
-    done = acts ++ second.done;
-    rest = second.rest;
-    all = ap (λ (list : List Act). acts ++ list) second.all ∙ sym (append_assoc acts second.done second.rest);
-    said = first.said ++ second.said;
-    state = second.state;
-    runs = Runs-append tells suite acts second.done old between second.state first.said second.said first.runs second.runs;
-    stops = second.stops;
-    given = gave_then before middle after (λ bytes. bytes ≡ text first.said) (λ bytes. IsGiven status second.said bytes) (λ bytes. IsGiven status (first.said ++ second.said) bytes)
-        first.given second.given (given_behind status first.said second.said);
-  }
-
-  -- a call's acts behind others that were done
-  pub serves_behind : (acts others : List Act) (result : Result (Unit {0}) Status) (old between new : NodeState) (before middle after : Option (List ℕ))
-      → Goes tells suite acts old between before middle → Serves tells suite others result between new middle after
-      → Serves tells suite (acts ++ others) result old new before after
-  serves_behind acts others (Ok done) old between new before middle after first second = goes_then acts others old between new before middle after first second
-  serves_behind acts others (Err status) old between new before middle after first second = breaks_then acts others status old between new before middle after first second
-
+  -- before further acts too
   pub ends_more : (status : Status) (rest others : List Act) (state end : NodeState) → EndsNext tells suite status rest state end
       → EndsNext tells suite status (rest ++ others) state end
   ends_more status [] others state end ends = absurd ends
@@ -219,34 +134,104 @@ module _ (tells : Type 0) (suite : SuiteMeaning) where
   stops_more (Line number) rest others state end stops = absurd stops
   stops_more ReadFault rest others state end stops = absurd stops
 
-  -- the run ends before further acts
-  pub breaks_before : (acts others : List Act) (status : Status) (old new : NodeState) (before after : Option (List ℕ)) → Breaks tells suite acts status old new before after
-      → Breaks tells suite (acts ++ others) status old new before after
-  breaks_before acts others status old new before after breaks = record {
-    done = breaks.done;
-    rest = breaks.rest ++ others;
-    all = ap (λ (list : List Act). list ++ others) breaks.all ∙ append_assoc breaks.done breaks.rest others;
-    said = breaks.said;
-    state = breaks.state;
-    runs = breaks.runs;
-    stops = stops_more status breaks.rest others breaks.state new breaks.stops;
-    given = breaks.given;
-  }
+  -- ---- one act, whose line a receiver takes
 
-  -- ---- a round of the shards
+  module _ {R : Type 0} {took took_front : R → R → List report.Line → Type 0} (in_turn : TakesInTurn took took_front) where
+    pub goes_one : (act : Act) (lines : List report.Line) (old new : NodeState) (before after : R) → Does tells suite act lines old new
+        → took before after lines → Goes tells suite (act ∷ []) old new (took before after)
+    goes_one act lines old new before after does taken = record { said = lines; runs = Runs-one tells suite act old new lines does; taken = taken }
 
-  -- one shard more was visited
-  pub round_goes_on : (act : ℕ → Act) (count : ℕ) (old between new : NodeState) (before middle after : Option (List ℕ)) → Goes tells suite (of_each act 0 count) old between before middle
-      → Goes tells suite (act count ∷ []) between new middle after → Goes tells suite (of_each act 0 (count + 1)) old new before after
-  round_goes_on act count old between new before middle after first second =
-      subst (λ (acts : List Act). Goes tells suite acts old new before after) (sym (round_more act count))
-      (goes_then (of_each act 0 count) (act count ∷ []) old between new before middle after first second)
+    -- it gives none
+    pub goes_silent : (act : Act) (old new : NodeState) (receiver : R) → Does tells suite act [] old new → Goes tells suite (act ∷ []) old new (took receiver receiver)
+    goes_silent act old new receiver does = goes_one act [] old new receiver receiver does (in_turn.nothing receiver)
 
-  -- a shard ended the run
-  pub round_breaks : (act : ℕ → Act) (count shards : ℕ) (status : Status) (old between new : NodeState) (before middle after : Option (List ℕ)) → count < shards
-      → Goes tells suite (of_each act 0 count) old between before middle → Breaks tells suite (act count ∷ []) status between new middle after
-      → Breaks tells suite (of_each act 0 shards) status old new before after
-  round_breaks act count shards status old between new before middle after within first second =
-      subst (λ (acts : List Act). Breaks tells suite acts status old new before after) (sym (round_split act count shards within))
-      (breaks_then (of_each act 0 count) (act count ∷ of_each act (suc count) (shards - suc count)) status old between new before middle after first
-      (breaks_before (act count ∷ []) (of_each act (suc count) (shards - suc count)) status between new middle after second))
+    -- its line was taken in part, or not at all
+    pub breaks_cut : (act : Act) (lines : List report.Line) (fault : PutFault) (old new : NodeState) (before after : R) → Does tells suite act lines old new
+        → took_front before after lines → Breaks tells suite (act ∷ []) (put_status fault) old new (took before after) (took_front before after)
+    breaks_cut act lines puts.WriteFault old new before after does front =
+        record { done = act ∷ []; rest = []; all = refl; said = lines; state = new; runs = Runs-one tells suite act old new lines does; stops = refl; taken = front }
+    breaks_cut act lines puts.Memory old new before after does front =
+        record { done = act ∷ []; rest = []; all = refl; said = lines; state = new; runs = Runs-one tells suite act old new lines does; stops = inl refl; taken = front }
+
+    -- it ended the run
+    pub breaks_ended : (act : Act) (status : Status) (old new : NodeState) (receiver : R) → Ends tells suite act status old new
+        → Breaks tells suite (act ∷ []) status old new (took receiver receiver) (took_front receiver receiver)
+    breaks_ended act status old new receiver ends = record {
+      done = [];
+      rest = act ∷ [];
+      all = refl;
+      said = [];
+      state = old;
+      runs = (refl, refl);
+      stops = stops_at status act [] old new (act_end act status old new ends) ends;
+      taken = taken_whole in_turn status receiver receiver [] (in_turn.nothing receiver);
+    }
+
+    -- ---- acts behind others
+
+    pub goes_nowhere : (node : NodeState) (receiver : R) → Goes tells suite [] node node (took receiver receiver)
+    goes_nowhere node receiver = record { said = []; runs = (refl, refl); taken = in_turn.nothing receiver }
+
+    pub goes_then : (acts others : List Act) (old between new : NodeState) (before middle after : R) → Goes tells suite acts old between (took before middle)
+        → Goes tells suite others between new (took middle after) → Goes tells suite (acts ++ others) old new (took before after)
+    goes_then acts others old between new before middle after first second = record {
+      said = first.said ++ second.said;
+      runs = Runs-append tells suite acts others old between new first.said second.said first.runs second.runs;
+      taken = in_turn.behind before middle after first.said second.said first.taken second.taken;
+    }
+
+    pub breaks_then : (acts others : List Act) (status : Status) (old between new : NodeState) (before middle after : R) → Goes tells suite acts old between (took before middle)
+        → Breaks tells suite others status between new (took middle after) (took_front middle after)
+        → Breaks tells suite (acts ++ others) status old new (took before after) (took_front before after)
+    breaks_then acts others status old between new before middle after first second = record {
+      done = acts ++ second.done;
+      rest = second.rest;
+      all = ap (λ (list : List Act). acts ++ list) second.all ∙ sym (append_assoc acts second.done second.rest);
+      said = first.said ++ second.said;
+      state = second.state;
+      runs = Runs-append tells suite acts second.done old between second.state first.said second.said first.runs second.runs;
+      stops = second.stops;
+      taken = taken_behind in_turn status before middle after first.said second.said first.taken second.taken;
+    }
+
+    -- a call's acts behind others that were done
+    pub serves_behind : (acts others : List Act) (result : Result (Unit {0}) Status) (old between new : NodeState) (before middle after : R)
+        → Goes tells suite acts old between (took before middle) → Serves tells suite others result between new (took middle after) (took_front middle after)
+        → Serves tells suite (acts ++ others) result old new (took before after) (took_front before after)
+    serves_behind acts others (Ok done) old between new before middle after first second = goes_then acts others old between new before middle after first second
+    serves_behind acts others (Err status) old between new before middle after first second = breaks_then acts others status old between new before middle after first second
+
+    -- the run ends before further acts
+    pub breaks_before : (acts others : List Act) (status : Status) (old new : NodeState) (before after : R)
+        → Breaks tells suite acts status old new (took before after) (took_front before after)
+        → Breaks tells suite (acts ++ others) status old new (took before after) (took_front before after)
+    breaks_before acts others status old new before after breaks = record {
+      done = breaks.done;
+      rest = breaks.rest ++ others;
+      all = ap (λ (list : List Act). list ++ others) breaks.all ∙ append_assoc breaks.done breaks.rest others;
+      said = breaks.said;
+      state = breaks.state;
+      runs = breaks.runs;
+      stops = stops_more status breaks.rest others breaks.state new breaks.stops;
+      taken = breaks.taken;
+    }
+
+    -- ---- a round of the shards
+
+    -- one shard more was visited
+    pub round_goes_on : (act : ℕ → Act) (count : ℕ) (old between new : NodeState) (before middle after : R)
+        → Goes tells suite (of_each act 0 count) old between (took before middle) → Goes tells suite (act count ∷ []) between new (took middle after)
+        → Goes tells suite (of_each act 0 (count + 1)) old new (took before after)
+    round_goes_on act count old between new before middle after first second =
+        subst (λ (acts : List Act). Goes tells suite acts old new (took before after)) (sym (round_more act count))
+        (goes_then (of_each act 0 count) (act count ∷ []) old between new before middle after first second)
+
+    -- a shard ended the run
+    pub round_breaks : (act : ℕ → Act) (count shards : ℕ) (status : Status) (old between new : NodeState) (before middle after : R) → count < shards
+        → Goes tells suite (of_each act 0 count) old between (took before middle)
+        → Breaks tells suite (act count ∷ []) status between new (took middle after) (took_front middle after)
+        → Breaks tells suite (of_each act 0 shards) status old new (took before after) (took_front before after)
+    round_breaks act count shards status old between new before middle after within first second =
+        subst (λ (acts : List Act). Breaks tells suite acts status old new (took before after) (took_front before after)) (sym (round_split act count shards within))
+        (breaks_then (of_each act 0 count) (act count ∷ of_each act (suc count) (shards - suc count)) status old between new before middle after first
+        (breaks_before (act count ∷ []) (of_each act (suc count) (shards - suc count)) status between new middle after second))

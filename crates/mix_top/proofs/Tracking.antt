@@ -4,6 +4,7 @@ use Rattle.std.proofs.lemmas.List.{append-nil}
 use Rattle.std.proofs.lemmas.Grind.{flat_map-append}
 use Rattle.mix_base.specs.Suites.{SuiteMeaning}
 use Rattle.mix_base.specs.declared.reading.Source.{Ghosts}
+use Rattle.lab_text.specs.Given.{Gave}
 use Rattle.lab_text.specs.Readers.{ReachesEnd, SourceGoesOn, source_of}
 use Rattle.lab_text.specs.Script.{Ending, AtEnd, Outside, Events, ends, in_front}
 use Rattle.lab_text.specs.declared.events.Event.{Event}
@@ -15,12 +16,13 @@ use Rattle.node_core.specs.declared.setup.NodeSetup.{NodeSetup}
 use Rattle.mix_top.specs.Acts.{Act, Opens, acts_of, acts_of_all, first_acts, of_each}
 use Rattle.mix_top.specs.declared.serving.Round.TheVariants as rounds
 use Rattle.mix_top.specs.Headline.{IsGiven}
-use Rattle.mix_top.specs.Progress.{Answers, Breaks, EndsAs, EndsEvents, Follows, Goes, IsNext, Progress, Stops, act_at}
+use Rattle.mix_top.specs.Progress.{Answers, Breaks, EndsAs, EndsEvents, Follows, Goes, IsNext, Progress, Stops, TakenOf, act_at}
+use Rattle.mix_top.specs.Receiving.{GaveFront, GaveText, TakesInTurn}
+use Rattle.mix_top.specs.ReceivingLaws.{sink_takes}
 use Rattle.mix_top.specs.Report as report
-use Rattle.mix_top.specs.Report.{text}
 use Rattle.mix_top.specs.Run.{Owes}
-use Rattle.mix_top.proofs.Giving.{gave_weaker, whole_text}
 use Rattle.mix_top.proofs.ServedActs.{breaks_then, ends_more, goes_then}
+use Rattle.mix_top.proofs.Taking.{taken_whole}
 
 -- ---- the first round, and events and those behind them
 
@@ -87,16 +89,22 @@ owed_at_stop tells suite shards (OtherShape node shard stored asked) rest state 
 owed_at_stop tells suite shards (NoKey epoch) rest state kind ended = absurd kind
 owed_at_stop tells suite shards Words rest state kind ended = absurd kind
 
-given_at_stop : (status : Status) (said : List report.Line) (bytes : List ℕ) → bytes ≡ text said → IsGiven status said bytes
-given_at_stop WriteFault said bytes same = whole_text said bytes same
-given_at_stop Memory said bytes same = whole_text said bytes same
-given_at_stop Done said bytes same = same
-given_at_stop Words said bytes same = same
-given_at_stop (Line number) said bytes same = same
-given_at_stop ReadFault said bytes same = same
-given_at_stop (Foreign node shard area at) said bytes same = same
-given_at_stop (OtherShape node shard stored asked) said bytes same = same
-given_at_stop (NoKey epoch) said bytes same = same
+-- a sink takes lines in turn
+on_sink : TakesInTurn GaveText GaveFront
+on_sink = sink_takes {R = Option (List ℕ)} (λ given. given)
+
+-- what a sink took of a report, as what it was given
+given_of : (status : Status) (said : List report.Line) (before after : Option (List ℕ)) → TakenOf (GaveText before after) (GaveFront before after) status said
+    → Gave before after (λ bytes. IsGiven status said bytes)
+given_of WriteFault said before after taken = taken
+given_of Memory said before after taken = taken
+given_of Done said before after taken = taken
+given_of Words said before after taken = taken
+given_of (Line number) said before after taken = taken
+given_of ReadFault said before after taken = taken
+given_of (Foreign node shard area at) said before after taken = taken
+given_of (OtherShape node shard stored asked) said before after taken = taken
+given_of (NoKey epoch) said before after taken = taken
 
 -- how a script ends that a source doesn't tell, by the status
 abbrev ending_for : Status → Ending
@@ -128,12 +136,12 @@ module _ (tells : Type 0) (suite : SuiteMeaning) (start : NodeState) where
   acts_for done = first_acts start.setup.shards ++ acts_of_all start.setup.shards done
 
   -- the journals were opened
-  pub progress_begins : (whole : Option Events) (node : NodeState) (before after : Option (List ℕ)) → Goes tells suite (first_acts start.setup.shards) start node before after
+  pub progress_begins : (whole : Option Events) (node : NodeState) (before after : Option (List ℕ)) → Goes tells suite (first_acts start.setup.shards) start node (GaveText before after)
       → Progress tells suite whole whole start node before after
   progress_begins whole node before after goes = record {
     done = [];
     follows = all_to_come whole;
-    goes = subst (λ (acts : List Act). Goes tells suite acts start node before after) (sym (append-nil (first_acts start.setup.shards))) goes;
+    goes = subst (λ (acts : List Act). Goes tells suite acts start node (GaveText before after)) (sym (append-nil (first_acts start.setup.shards))) goes;
   }
     where
       all_to_come : (whole : Option Events) → IfSome whole (λ all. IsSomeAnd whole (λ more. Follows all more []))
@@ -143,13 +151,13 @@ module _ (tells : Type 0) (suite : SuiteMeaning) (start : NodeState) where
   -- an event was answered
   pub progress_goes_on : (whole rest more : Option Events) (node new : NodeState) (event : ℕ × Event) (before after last : Option (List ℕ))
       → Progress tells suite whole rest start node before after → IsNext event rest more
-      → Goes tells suite (acts_of start.setup.shards event.1) node new after last → Progress tells suite whole more start new before last
+      → Goes tells suite (acts_of start.setup.shards event.1) node new (GaveText after last) → Progress tells suite whole more start new before last
   progress_goes_on whole rest more node new event before after last so_far next goes = record {
     done = so_far.done ++ event ∷ [];
     follows = pushed whole rest more so_far.follows next;
-    goes = subst (λ (acts : List Act). Goes tells suite acts start new before last)
+    goes = subst (λ (acts : List Act). Goes tells suite acts start new (GaveText before last))
         (sym (acts_pushed start.setup.shards (first_acts start.setup.shards) so_far.done event))
-        (goes_then tells suite (acts_for so_far.done) (acts_of start.setup.shards event.1) start node new before after last so_far.goes goes);
+        (goes_then tells suite on_sink (acts_for so_far.done) (acts_of start.setup.shards event.1) start node new before after last so_far.goes goes);
   }
     where
       pushed : (whole rest more : Option Events) → IfSome whole (λ all. IsSomeAnd rest (λ others. Follows all others so_far.done)) → IsNext event rest more
@@ -161,7 +169,7 @@ module _ (tells : Type 0) (suite : SuiteMeaning) (start : NodeState) where
 
   -- no further event was read
   stopped : (whole : Events) (told : Option Events) (rest : Events) (done : List (ℕ × Event)) (node : NodeState) (before after : Option (List ℕ)) (status : Status)
-      → IfSome told (λ all. whole ≡ all) → Follows whole rest done → Goes tells suite (acts_for done) start node before after → EndsEvents status → EndsAs ends rest status
+      → IfSome told (λ all. whole ≡ all) → Follows whole rest done → Goes tells suite (acts_for done) start node (GaveText before after) → EndsEvents status → EndsAs ends rest status
       → Answers tells suite told status start node before after
   stopped whole told rest done node before after status is follows goes kind ended = record {
     whole = whole;
@@ -174,7 +182,7 @@ module _ (tells : Type 0) (suite : SuiteMeaning) (start : NodeState) where
     runs = goes.runs;
     owed = subst (λ (e : Ending). Owes tells suite e status (acts_of_all start.setup.shards rest.list) node node) (sym follows.ending)
         (owed_at_stop tells suite start.setup.shards status rest node kind ended);
-    given = gave_weaker before after (λ bytes. bytes ≡ text goes.said) (λ bytes. IsGiven status goes.said bytes) goes.given (given_at_stop status goes.said);
+    given = given_of status goes.said before after (taken_whole on_sink status before after goes.said goes.taken);
   }
 
   pub answers_stop : (whole rest : Option Events) (node : NodeState) (before after : Option (List ℕ)) (status : Status)
@@ -192,7 +200,7 @@ module _ (tells : Type 0) (suite : SuiteMeaning) (start : NodeState) where
 
   -- an event ended the run
   broken : (whole : Events) (told : Option Events) (others : List Act) (acts : List Act) (node : NodeState) (before after : Option (List ℕ)) (status : Status)
-      → IfSome told (λ all. whole ≡ all) → acts_for whole.list ≡ acts ++ others → Breaks tells suite acts status start node before after
+      → IfSome told (λ all. whole ≡ all) → acts_for whole.list ≡ acts ++ others → Breaks tells suite acts status start node (GaveText before after) (GaveFront before after)
       → Answers tells suite told status start node before after
   broken whole told others acts node before after status is all breaks = record {
     whole = whole;
@@ -204,12 +212,12 @@ module _ (tells : Type 0) (suite : SuiteMeaning) (start : NodeState) where
     state = breaks.state;
     runs = breaks.runs;
     owed = owed_at_break tells suite whole.ending status breaks.rest others breaks.state node breaks.stops;
-    given = breaks.given;
+    given = given_of status breaks.said before after breaks.taken;
   }
 
   -- the first round did
   pub answers_unopened : (whole : Option Events) (node : NodeState) (before after : Option (List ℕ)) (status : Status)
-      → Breaks tells suite (first_acts start.setup.shards) status start node before after → Answers tells suite whole status start node before after
+      → Breaks tells suite (first_acts start.setup.shards) status start node (GaveText before after) (GaveFront before after) → Answers tells suite whole status start node before after
   answers_unopened None node before after status breaks =
       broken (ends AtEnd) None [] (first_acts start.setup.shards) node before after status tt refl breaks
   answers_unopened (Some all) node before after status breaks =
@@ -217,14 +225,14 @@ module _ (tells : Type 0) (suite : SuiteMeaning) (start : NodeState) where
 
   pub answers_broken : (whole rest more : Option Events) (node new : NodeState) (event : ℕ × Event) (before after last : Option (List ℕ)) (status : Status)
       → Progress tells suite whole rest start node before after → IsNext event rest more
-      → Breaks tells suite (acts_of start.setup.shards event.1) status node new after last → Answers tells suite whole status start new before last
+      → Breaks tells suite (acts_of start.setup.shards event.1) status node new (GaveText after last) (GaveFront after last) → Answers tells suite whole status start new before last
   answers_broken whole rest more node new event before after last status so_far next breaks = by_told whole rest more so_far.follows next
     where
       acts : List Act
       acts = acts_for so_far.done ++ acts_of start.setup.shards event.1
 
-      both : Breaks tells suite acts status start new before last
-      both = breaks_then tells suite (acts_for so_far.done) (acts_of start.setup.shards event.1) status start node new before after last so_far.goes breaks
+      both : Breaks tells suite acts status start new (GaveText before last) (GaveFront before last)
+      both = breaks_then tells suite on_sink (acts_for so_far.done) (acts_of start.setup.shards event.1) status start node new before after last so_far.goes breaks
 
       by_told : (whole rest more : Option Events) → IfSome whole (λ all. IsSomeAnd rest (λ others. Follows all others so_far.done)) → IsNext event rest more
           → Answers tells suite whole status start new before last

@@ -9,5 +9,14 @@ pub mod Steps
 pub mod Run
 pub mod Honest
 pub mod Headline
--- Words of private functions and proofs alone: how far a script has been answered.
+-- The command `storm`: its events, its summary, and its promise.
+pub mod Storm
+pub mod Summary
+pub mod StormHeadline
+-- Words of private functions and proofs alone: what it is to take the lines of a report; and how far a script has been
+-- answered.
+pub mod Receiving
+pub mod ReceivingLaws
 pub mod Progress
+pub mod Tallies
+pub mod Storming

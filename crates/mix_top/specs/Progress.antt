@@ -21,6 +21,7 @@ use Rattle.node_core.specs.declared.setup.NodeSetup.{NodeSetup}
 use Rattle.mix_top.specs.Acts.{Act, Opens, Reopens, Rotates, acts_of_all, first_acts}
 use Rattle.mix_top.specs.Headline.{AnswersProgram, IsGiven}
 use Rattle.mix_top.specs.Program.{Program, program_from, set_up}
+use Rattle.mix_top.specs.Receiving.{GaveText}
 use Rattle.mix_top.specs.Report as report
 use Rattle.mix_top.specs.Report.{Says, text}
 use Rattle.mix_top.specs.declared.report.ReportLine.{ReportLine}
@@ -30,11 +31,11 @@ use Rattle.mix_top.specs.Run.{EndsNext, Owes, Runs}
 
 -- ---- acts
 
--- these acts were done one after the other, and the sink was given their report
-pub record Goes (tells : Type 0) (suite : SuiteMeaning) (acts : List Act) (old new : NodeState) (before after : Option (List ℕ)) : Type 0 where
+-- these acts were done one after the other, and their report was taken
+pub record Goes (tells : Type 0) (suite : SuiteMeaning) (acts : List Act) (old new : NodeState) (took : List report.Line → Type 0) : Type 0 where
   pub said : List report.Line
   pub runs : Runs tells suite old acts said new
-  pub given : Gave before after (λ bytes. bytes ≡ text said)
+  pub taken : took said
 
 -- how acts end a run by themselves
 abbrev pub Stops : Type 0 → SuiteMeaning → Status → List Act → NodeState → NodeState → Type 0
@@ -45,8 +46,14 @@ Stops tells suite (OtherShape node shard stored asked) rest state end = EndsNext
 Stops tells suite (NoKey epoch) rest state end = EndsNext tells suite (NoKey epoch) rest state end
 Stops tells suite _ rest state end = ⊥
 
+-- what was taken of the report of a run that ended so: all of it, but for a receiver that failed or wanted memory
+abbrev pub TakenOf : (List report.Line → Type 0) → (List report.Line → Type 0) → Status → List report.Line → Type 0
+TakenOf took took_front WriteFault said = took_front said
+TakenOf took took_front Memory said = took_front said
+TakenOf took took_front _ said = took said
+
 -- the first of these acts were done, and then the run ended
-pub record Breaks (tells : Type 0) (suite : SuiteMeaning) (acts : List Act) (status : Status) (old new : NodeState) (before after : Option (List ℕ)) : Type 0 where
+pub record Breaks (tells : Type 0) (suite : SuiteMeaning) (acts : List Act) (status : Status) (old new : NodeState) (took took_front : List report.Line → Type 0) : Type 0 where
   pub done : List Act
   pub rest : List Act
   pub all : acts ≡ done ++ rest
@@ -54,26 +61,19 @@ pub record Breaks (tells : Type 0) (suite : SuiteMeaning) (acts : List Act) (sta
   pub state : NodeState
   pub runs : Runs tells suite old done said state
   pub stops : Stops tells suite status rest state new
-  pub given : Gave before after (λ bytes. IsGiven status said bytes)
+  pub taken : TakenOf took took_front status said
 
 -- what a call that does these acts comes to
-abbrev pub Serves : Type 0 → SuiteMeaning → List Act → Result (Unit {0}) Status → NodeState → NodeState → Option (List ℕ) → Option (List ℕ) → Type 0
-Serves tells suite acts (Ok _) old new before after = Goes tells suite acts old new before after
-Serves tells suite acts (Err status) old new before after = Breaks tells suite acts status old new before after
+abbrev pub Serves : Type 0 → SuiteMeaning → List Act → Result (Unit {0}) Status → NodeState → NodeState → (List report.Line → Type 0) → (List report.Line → Type 0) → Type 0
+Serves tells suite acts (Ok _) old new took took_front = Goes tells suite acts old new took
+Serves tells suite acts (Err status) old new took took_front = Breaks tells suite acts status old new took took_front
 
 -- a line that says something, or none, as lines
 abbrev pub as_lines : Option ReportLine → List report.Line
 as_lines None = []
 as_lines (Some line) = Says line ∷ []
 
--- where a sink tells, it was given the text of these lines; or a front of it
-abbrev pub GaveText : Option (List ℕ) → Option (List ℕ) → List report.Line → Type 0
-GaveText before after lines = Gave before after (λ bytes. bytes ≡ text lines)
-
-abbrev pub GaveFront : Option (List ℕ) → Option (List ℕ) → List report.Line → Type 0
-GaveFront before after lines = Gave before after (λ bytes. (count : ℕ) × (bytes ≡ take count (text lines)))
-
--- what a sink's count of faults owes to an answer
+-- what the count of faults of a sink, or of another receiver, owes to an answer
 pub record SinkGoesOn (result : Result (Unit {0}) Status) (before after : ℕ) : Type 0 where
   pub fault : IsErrOf result WriteFault → Rose before after
   pub count : before ≤ after
@@ -158,7 +158,7 @@ pub record Follows (whole rest : Events) (done : List (ℕ × Event)) : Type 0 w
 pub record Progress (tells : Type 0) (suite : SuiteMeaning) (whole rest : Option Events) (start node : NodeState) (before after : Option (List ℕ)) : Type 0 where
   pub done : List (ℕ × Event)
   pub follows : IfSome whole (λ all. IsSomeAnd rest (λ more. Follows all more done))
-  pub goes : Goes tells suite (first_acts start.setup.shards ++ acts_of_all start.setup.shards done) start node before after
+  pub goes : Goes tells suite (first_acts start.setup.shards ++ acts_of_all start.setup.shards done) start node (GaveText before after)
 
 -- a call's status
 abbrev pub status_of : Result (Unit {0}) Status → Status

@@ -1,17 +1,20 @@
 // The program's commands over any source, sink and disks. The command `drive` carries the headline: whatever the script,
-// its report hands on at most one packet for each epoch key and replay tag, over all restarts, and each is honest. The
-// other commands are the tools'.
+// its report hands on at most one packet for each epoch key and replay tag, over all restarts, and each is honest. So does
+// `storm`, for events that follow from its words. The other commands are the tools'.
 ghost use Rattle.std.specs.Prelude.{◌≡◌, ◌≢◌, ◌↔◌, ◌≤◌, None, false, true, length, map, string_bytes};
 ghost use Rattle.mix_base.specs.Faults.{Rose};
 ghost use Rattle.lab_text.specs.Readers.{ReachesEnd};
 ghost use Rattle.mix_tools.specs.Answers.{AnswersCommand, EndsInput, EndsTool, ExplainsInput};
 ghost use Rattle.mix_tools.specs.Answers.{HasNoKey, IfKeyless, IsReadBy, IsUnwritten};
 ghost use Rattle.mix_tools.specs.Commands.{command_of};
-ghost use Rattle.mix_top.specs.Commands.{OnDrive, OnTool, names_drive};
+ghost use Rattle.mix_top.specs.Commands.{OnDrive, OnStorm, OnTool, names_drive};
 ghost use Rattle.mix_top.specs.Headline.{AnswersScript};
+ghost use Rattle.mix_top.specs.Storm.{storm_of};
+ghost use Rattle.mix_top.specs.StormHeadline.{AnswersStorm};
 
 use crate::bench::Bench;
 use crate::drive::drive;
+use crate::storm::{read_storm, storm};
 use lab_text::Status;
 use mix_base::{Sink, Source};
 use mix_tools::tool;
@@ -19,9 +22,9 @@ use replay_disk::{CrashRack, Rack};
 use std::alloc::Global;
 
 /// Runs the command that the words name: `drive` reads a script from the source, drives a node over the bench's laboratory
-/// disks, and writes its report to the sink; the tools' commands are those of `tool`. `Words` comes exactly where the words
-/// are no form of a command, and then source, sink and bench are as they were. Asks 16 laboratory disks and 32 kept ones,
-/// and leaves each in its place.
+/// disks, and writes its report to the sink; `storm` drives a node over these disks by its words alone, and writes a summary;
+/// the tools' commands are those of `tool`. `Words` comes exactly where the words are no form of a command, and then source,
+/// sink and bench are as they were. Asks 16 laboratory disks and 32 kept ones, and leaves each in its place.
 pub fn mix_command<I: Source, O: Sink, C: CrashRack, K: Rack>(
     alloc: Global,
     words: &[String],
@@ -32,7 +35,9 @@ pub fn mix_command<I: Source, O: Sink, C: CrashRack, K: Rack>(
     requires lab { length bench.old.lab.items ≡ 16 }
     requires kept { length bench.old.kept.items ≡ 32 }
     ensures forms { (result ≡ Status.Words) ↔
-        ((names_drive (map string_bytes words.now) ≡ false) × (command_of (map string_bytes words.now) ≡ None)) }
+        ((names_drive (map string_bytes words.now) ≡ false)
+        × (storm_of (map string_bytes words.now) ≡ None)
+        × (command_of (map string_bytes words.now) ≡ None)) }
     ensures untouched { result ≡ Status.Words → (source.new ≡ source.old) × (sink.new ≡ sink.old) }
 
     // `drive`: the headline, of the script that the source tells, the report that the sink tells, and the disks.
@@ -42,8 +47,16 @@ pub fn mix_command<I: Source, O: Sink, C: CrashRack, K: Rack>(
     ensures end { OnDrive (map string_bytes words.now)
         (result ≡ Status.Done → ReachesEnd (I.left source.old) (I.left source.new)) }
 
+    // `storm`: the same of the events of its words, and the summary of their report, for which nothing is read.
+    ensures storm { OnStorm (map string_bytes words.now) (λ named.
+        AnswersStorm C.tells named result (O.given sink.old) (O.given sink.new)
+        (map C.state bench.old.lab.items) (map C.state bench.new.lab.items)) }
+    ensures storm_reads_nothing { OnStorm (map string_bytes words.now) (λ named.
+        source.new ≡ source.old) }
+
     // No other command changes a laboratory disk, none a kept one, and each stays in its place.
-    ensures bench { names_drive (map string_bytes words.now) ≡ false → bench.new ≡ bench.old }
+    ensures bench { names_drive (map string_bytes words.now) ≡ false →
+        storm_of (map string_bytes words.now) ≡ None → bench.new ≡ bench.old }
     ensures kept { bench.new.kept ≡ bench.old.kept }
     ensures lab { length bench.new.lab.items ≡ 16 }
 
@@ -74,6 +87,9 @@ pub fn mix_command<I: Source, O: Sink, C: CrashRack, K: Rack>(
 {
     if is_drive(words) {
         return drive(alloc, source, sink, &mut bench.lab);
+    }
+    if let Some(named) = read_storm(words) {
+        return storm(alloc, &named, sink, &mut bench.lab);
     }
     match tool(alloc, words, source, sink) {
         Some(status) => status,

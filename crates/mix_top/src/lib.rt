@@ -6,8 +6,10 @@ mod bench;
 mod command;
 mod drive;
 mod reading;
+mod receiving;
 mod report;
 mod serving;
+mod storm;
 #[cfg(test)]
 mod tests;
 

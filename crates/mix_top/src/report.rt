@@ -2,7 +2,7 @@
 ghost use Rattle.std.specs.Prelude.{◌≡◌, ◌≤◌, [], ◌∷◌, IfOk, OnOk, OnErr, IsErrOf, string_bytes};
 ghost use Rattle.mix_base.specs.Faults.{Rose};
 ghost use Rattle.lab_text.specs.WordForms.{line_of};
-ghost use Rattle.mix_top.specs.Progress.{GaveFront, GaveText, as_lines};
+ghost use Rattle.mix_top.specs.Receiving.{GaveFront, GaveText};
 ghost use Rattle.mix_top.specs.Report.{Says, why_of, words_of_line};
 
 use mix_base::{Memory, PutFault, Sink};
@@ -38,23 +38,6 @@ pub enum ReportLine {
     NotRotated { shard: u8 },
     /// The shard's journal has no room for another floor.
     RootFull { shard: u8 },
-}
-
-/// Writes a line, where there is one.
-pub fn put_maybe<O: Sink>(
-    alloc: Global,
-    sink: &mut O,
-    line: Option<ReportLine>,
-) -> Result<(), PutFault>
-    ensures whole { OnOk result (GaveText (O.given sink.old) (O.given sink.new) (as_lines line)) }
-    ensures front { OnErr result (GaveFront (O.given sink.old) (O.given sink.new) (as_lines line)) }
-    ensures fault { IsErrOf result PutFault.WriteFault → Rose (O.faults sink.old) (O.faults sink.new) }
-    ensures count { O.faults sink.old ≤ O.faults sink.new }
-{
-    match line {
-        Some(line) => put_line(alloc, sink, &line),
-        None => Ok(()),
-    }
 }
 
 /// Writes a line.

@@ -8,9 +8,10 @@ ghost use Rattle.mix_top.specs.Progress.{GoesOn, IsRoundInRange, IsServed, Serve
 mod acts;
 mod lines;
 
+use crate::receiving::Receiver;
 use acts::{claim, open, peel, receive, reopen, rotate, send};
 use lab_text::{Event, Status};
-use mix_base::{Sink, Suite};
+use mix_base::Suite;
 use node_core::{Node, NodeSetup};
 use replay_disk::CrashRack;
 use std::alloc::Global;
@@ -27,11 +28,11 @@ pub enum Round {
 }
 
 /// One event of the script.
-pub fn serve<C: CrashRack, S: Suite, O: Sink>(
+pub fn serve<C: CrashRack, S: Suite, R: Receiver>(
     alloc: Global,
     setup: &NodeSetup,
     node: &mut Node<C, S>,
-    sink: &mut O,
+    receiver: &mut R,
     event: Event,
 ) -> Result<(), Status>
     requires setup { node.old.setup ≡ setup.now }
@@ -40,56 +41,64 @@ pub fn serve<C: CrashRack, S: Suite, O: Sink>(
     requires in_range { IsEventInRange setup.now.shards event }
     requires room { node.old.next < 2 ^ 64 - 1 }
     ensures serves { Serves C.tells S.meaning (acts_of setup.now.shards event) result
-        node.old node.new (O.given sink.old) (O.given sink.new) }
+        node.old node.new (R.took receiver.old receiver.new)
+        (R.took_front receiver.old receiver.new) }
     ensures goes_on { GoesOn C.tells S.meaning 1 node.old node.new }
-    ensures sink { SinkGoesOn result (O.faults sink.old) (O.faults sink.new) }
+    ensures receiver { SinkGoesOn result (R.failures receiver.old) (R.failures receiver.new) }
 {
     match event {
-        Event::Recv { moment, packet } => receive(node, sink, moment, packet),
-        Event::Peel { worker } => peel(alloc, node, sink, worker),
-        Event::Claim { worker } => claim(alloc, setup, node, sink, worker),
-        Event::Send { moment } => send(alloc, node, sink, moment),
-        Event::Rotate { moment } => go_round(alloc, setup, node, sink, Round::Rotate { moment }),
+        Event::Recv { moment, packet } => receive(node, receiver, moment, packet),
+        Event::Peel { worker } => peel(alloc, node, receiver, worker),
+        Event::Claim { worker } => claim(alloc, setup, node, receiver, worker),
+        Event::Send { moment } => send(alloc, node, receiver, moment),
+        Event::Rotate { moment } => go_round(
+            alloc,
+            setup,
+            node,
+            receiver,
+            Round::Rotate { moment },
+        ),
         Event::Arm { shard, calls } => {
             node.arm(shard, calls);
             Ok(())
         }
         Event::Crash { pick } => {
             node.crash(pick);
-            go_round(alloc, setup, node, sink, Round::Reopen)
+            go_round(alloc, setup, node, receiver, Round::Reopen)
         }
         Event::Skip => Ok(()),
     }
 }
 
 /// A round of all shards, in their order.
-pub fn go_round<C: CrashRack, S: Suite, O: Sink>(
+pub fn go_round<C: CrashRack, S: Suite, R: Receiver>(
     alloc: Global,
     setup: &NodeSetup,
     node: &mut Node<C, S>,
-    sink: &mut O,
+    receiver: &mut R,
     round: Round,
 ) -> Result<(), Status>
     requires setup { node.old.setup ≡ setup.now }
     requires kept { AreShardsOf C.tells S.meaning node.old.setup node.old.shards }
     requires in_range { IsRoundInRange round }
     ensures serves { Serves C.tells S.meaning (of_each (act_at round) 0 setup.now.shards) result
-        node.old node.new (O.given sink.old) (O.given sink.new) }
+        node.old node.new (R.took receiver.old receiver.new)
+        (R.took_front receiver.old receiver.new) }
     ensures goes_on { GoesOn C.tells S.meaning 0 node.old node.new }
-    ensures sink { SinkGoesOn result (O.faults sink.old) (O.faults sink.new) }
+    ensures receiver { SinkGoesOn result (R.failures receiver.old) (R.failures receiver.new) }
 {
     for shard in 0..setup.shards {
-        visit(alloc, setup, node, sink, round, shard)?;
+        visit(alloc, setup, node, receiver, round, shard)?;
     }
     Ok(())
 }
 
 /// One shard of a round.
-fn visit<C: CrashRack, S: Suite, O: Sink>(
+fn visit<C: CrashRack, S: Suite, R: Receiver>(
     alloc: Global,
     setup: &NodeSetup,
     node: &mut Node<C, S>,
-    sink: &mut O,
+    receiver: &mut R,
     round: Round,
     shard: u8,
 ) -> Result<(), Status>
@@ -97,13 +106,14 @@ fn visit<C: CrashRack, S: Suite, O: Sink>(
     requires in_range { IsRoundInRange round }
     requires shard { shard < setup.now.shards }
     ensures serves { Serves C.tells S.meaning (act_at round shard ∷ []) result
-        node.old node.new (O.given sink.old) (O.given sink.new) }
+        node.old node.new (R.took receiver.old receiver.new)
+        (R.took_front receiver.old receiver.new) }
     ensures goes_on { GoesOn C.tells S.meaning 0 node.old node.new }
-    ensures sink { SinkGoesOn result (O.faults sink.old) (O.faults sink.new) }
+    ensures receiver { SinkGoesOn result (R.failures receiver.old) (R.failures receiver.new) }
 {
     match round {
-        Round::Open => open(alloc, setup, node, sink, shard),
-        Round::Reopen => reopen(alloc, setup, node, sink, shard),
-        Round::Rotate { moment } => rotate(alloc, setup, node, sink, moment, shard),
+        Round::Open => open(alloc, setup, node, receiver, shard),
+        Round::Reopen => reopen(alloc, setup, node, receiver, shard),
+        Round::Rotate { moment } => rotate(alloc, setup, node, receiver, moment, shard),
     }
 }

@@ -2,5 +2,6 @@
 mod ample_memory;
 mod ntru_node;
 mod packets;
+mod storms;
 mod there_and_back;
 mod whole_scripts;

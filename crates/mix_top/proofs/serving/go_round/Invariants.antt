@@ -6,7 +6,7 @@ use Rattle.mix_top.proofs.serving.go_round.Given as goal
 -- the shards before this one were visited
 abbrev pub invariant-loop-shard : goal.invariant-loop-shard
 invariant-loop-shard g l = record {
-  goes : Goes g.C.Rack.tells g.S.Suite.meaning (of_each (act_at l.round) 0 l.shard) l.initial.node l.node (g.O.Sink.given l.initial.sink) (g.O.Sink.given l.sink);
+  goes : Goes g.C.Rack.tells g.S.Suite.meaning (of_each (act_at l.round) 0 l.shard) l.initial.node l.node (g.R.Receiver.took l.initial.receiver l.receiver);
   node : GoesOn g.C.Rack.tells g.S.Suite.meaning 0 l.initial.node l.node;
-  write_faults : g.O.Sink.faults l.initial.sink ≤ g.O.Sink.faults l.sink;
+  write_faults : g.R.Receiver.failures l.initial.receiver ≤ g.R.Receiver.failures l.receiver;
 }

@@ -6,5 +6,5 @@ use Rattle.mix_top.proofs.serving.acts.receive.Goals as goal
 
 pub returns-in-Err-clause-serves : goal.returns-in-Err-clause-serves
 returns-in-Err-clause-serves g c =
-    breaks_ended g.C.Rack.tells g.S.Suite.meaning (Receives c.args.moment c.args.packet) Memory c.args.node.now c.recv.new.self (g.O.Sink.given c.args.sink.now)
+    breaks_ended g.C.Rack.tells g.S.Suite.meaning g.met.R.Receiver.in_turn (Receives c.args.moment c.args.packet) Memory c.args.node.now c.recv.new.self c.args.receiver.now
     (refl, c.in-Err.ensures.refused)
