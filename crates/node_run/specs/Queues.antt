@@ -1,5 +1,5 @@
 -- Queues: what contracts see of a queue, of its senders and of its receiver.
-use Rattle.std.specs.Prelude.{◌≡◌, ◌<◌, ℕ, ◌+◌, ◌==◌, ⊤, Bool, All, List, [], ◌∷◌, ◌++◌, length, Option, Some, None, filter, is_none, IsTrue, if◌then◌else◌}
+use Rattle.std.specs.Prelude.{◌≡◌, ◌<◌, ℕ, ◌+◌, ◌==◌, ⊤, Bool, All, List, [], ◌∷◌, ◌++◌, length, Option, filter, is_none, IsTrue, if◌then◌else◌}
 use Rattle.atomic_table.specs.Seated.{TableId}
 use Rattle.node_run.specs.declared.queues.items.Arrival.{Arrival}
 use Rattle.node_run.specs.declared.queues.items.Item.{Item}

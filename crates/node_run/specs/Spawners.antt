@@ -1,6 +1,5 @@
 -- What a spawner answers, and the state of one whose failing calls are listed.
 use Rattle.std.specs.Prelude.{◌≡◌, ⊤, ℕ, ◌+◌, ◌-◌, ◌^◌, List, Result, Ok, Err, Contains, min}
-use Rattle.std.specs.declared.vec.Vec.{Vec}
 use Rattle.node_run.specs.declared.spawner.actors.NotRun.{NotRun}
 use Rattle.node_run.specs.declared.spawner.actors.NotRun.TheVariants.{Failed, Memory}
 

@@ -2,6 +2,7 @@
 // a queue brings what each listener pushes to a worker in that listener's order, and then its end mark.
 #![tactic(auto)]
 
+mod actors;
 mod queues;
 mod spawner;
 #[cfg(test)]

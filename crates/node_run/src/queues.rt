@@ -1,7 +1,7 @@
 // The queue between a node's listeners and one of its workers. What comes out of it of each listener is a front of what
 // that listener pushed, in its order, and the end mark is its last push. So whoever has popped a mark of each listener
 // has popped all that each of them pushed.
-mod bell;
+pub(crate) mod bell;
 mod ends;
 mod hands;
 mod items;

@@ -3,6 +3,7 @@
 use std::sync::Wait;
 use std::sync::atomic::AtomicU64;
 use std::sync::atomic::Ordering::SeqCst;
+use std::time::Duration;
 
 #[derive(Drop)]
 pub(crate) struct Bell {
@@ -29,6 +30,25 @@ impl Bell {
         if self.sleepers.load(SeqCst) > 0 {
             self.rung.wake_one();
         }
+    }
+
+    // Rings for all that sleep.
+    pub(crate) fn ring_all(&self) {
+        self.rung.fetch_add(1, SeqCst);
+        if self.sleepers.load(SeqCst) > 0 {
+            self.rung.wake_all();
+        }
+    }
+
+    // Sleeps for so many milliseconds at most, unless it has rung more often than was heard.
+    pub(crate) fn doze<R: Wait>(&self, rt: &R, heard: u64, most: u64) {
+        self.sleepers.fetch_add(1, SeqCst);
+        self.rung.park_timeout(
+            rt,
+            (heard & 0xffff_ffff) as u32,
+            Duration::from_millis(most),
+        );
+        self.sleepers.fetch_sub(1, SeqCst);
     }
 
     // Sleeps, unless it has rung more often than was heard. It may end early.

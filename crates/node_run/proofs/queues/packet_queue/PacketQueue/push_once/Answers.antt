@@ -1,4 +1,4 @@
-use Rattle.std.proofs.Common.{◌≡◌, ap, sym, ◌∙◌, subst}
+use Rattle.std.proofs.Common.{ap, sym, ◌∙◌, subst}
 use Rattle.node_run.specs.declared.queues.hands.Hand.{Hand}
 use Rattle.node_run.specs.Queues.{Sending, marks, WasFull}
 use Rattle.node_run.specs.QueueRule.{first_items}

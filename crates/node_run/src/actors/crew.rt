@@ -1,0 +1,186 @@
+// All that a thread of a life may be, as one enum, and what each leaves.
+ghost use Rattle.std.specs.Prelude.{◌≡◌, []};
+ghost use Rattle.node_run.specs.Leaving.{LeavesClaims, LeavesDrained, LeavesSeat};
+ghost use Rattle.node_run.specs.Logging.{LogsClaims, LogsCourse, LogsTakes};
+ghost use Rattle.node_run.specs.Seats.{IsOpen};
+
+use crate::actors::connecting::{Connector, ConnectorEnd};
+use crate::actors::dealing::{DealerEnd, end_all};
+use crate::actors::feeds::Feed;
+use crate::actors::gates::Gate;
+use crate::actors::keeping::{Keeper, KeeperEnd};
+use crate::actors::listening::{Listener, ListenerEnd};
+use crate::actors::rotating::Rotator;
+use crate::actors::seats::Seat;
+use crate::actors::turns::ShardPass;
+use crate::actors::working::{Worker, WorkerEnd};
+use crate::actors::works::{Left, Work};
+use crate::queues::bell::Bell;
+use mix_base::Suite;
+use mix_links::{Clock, LinkIn, LinkOut};
+use mix_shard::Held;
+use replay_disk::Rack;
+use std::alloc::Global;
+use std::sync::Wait;
+
+/// A caller that has nothing to do but to end.
+#[derive(Drop)]
+pub struct Spare<'a, H: Wait, R: Rack, S: Suite> {
+    pub(crate) seat: Seat<'a, H, R, S>,
+    pub(crate) claims: &'a Bell,
+    pub ghost may_end: { IsOpen seat },
+}
+
+/// A feed that is to be sent.
+#[derive(Drop)]
+pub struct Feeder<O: LinkOut> {
+    pub(crate) alloc: Global,
+    pub(crate) feed: Feed<O>,
+}
+
+/// A thread of a life: a caller of a node's shards, or a feed.
+#[derive(Drop)]
+pub enum NodeActor<'a, H: Wait, R: Rack, S: Suite, N: LinkIn, O: LinkOut, C: Clock, G: Gate> {
+    Listens(Listener<'a, H, R, S, N, C>),
+    Works(Worker<'a, H, R, S, G>),
+    Connects(Connector<'a, H, R, S, O, C>),
+    Keeps(Keeper<'a, H, R, S, C>),
+    Rotates(Rotator<'a, H, R, S, C>),
+    Ends(Spare<'a, H, R, S>),
+    Feeds(Feeder<O>),
+}
+
+pub(crate) type LeftBy<R, S, N, O> = Left<ShardPass<R, S>, Held<S>, N, O>;
+
+pub(crate) fn run_listener<H: Wait, R: Rack, S: Suite, N: LinkIn, O: LinkOut, C: Clock>(
+    listener: Listener<'_, H, R, S, N, C>,
+) -> LeftBy<R, S, N, O>
+    ensures seat { LeavesSeat listener.entry.dealer.seat result.passes.items }
+    ensures log { LogsClaims listener.entry.dealer.seat result.passes.items result.work }
+    ensures course { LogsCourse N.left N.faults C.may_give listener.entry result.work }
+{
+    let ListenerEnd {
+        dealer,
+        link,
+        senders,
+        course,
+        ending,
+    } = listener.run();
+    let DealerEnd { seat, log, dropped } = dealer;
+    Left {
+        passes: seat.into_passes(),
+        work: Work::Listened {
+            link,
+            log,
+            dropped,
+            senders,
+            course,
+            ending,
+        },
+    }
+}
+
+pub(crate) fn run_worker<H: Wait, R: Rack, S: Suite, N: LinkIn, O: LinkOut, G: Gate>(
+    worker: Worker<'_, H, R, S, G>,
+) -> LeftBy<R, S, N, O>
+    ensures seat { LeavesSeat worker.entry.dealer.seat result.passes.items }
+    ensures log { LogsClaims worker.entry.dealer.seat result.passes.items result.work }
+{
+    let WorkerEnd { dealer, receiver } = worker.run();
+    let DealerEnd { seat, log, dropped } = dealer;
+    Left {
+        passes: seat.into_passes(),
+        work: Work::Worked {
+            receiver,
+            log,
+            dropped,
+        },
+    }
+}
+
+pub(crate) fn run_connector<H: Wait, R: Rack, S: Suite, N: LinkIn, O: LinkOut, C: Clock>(
+    connector: Connector<'_, H, R, S, O, C>,
+) -> LeftBy<R, S, N, O>
+    ensures seat { LeavesClaims connector.entry.seat result.passes.items }
+    ensures log { LogsTakes connector.entry.seat result.passes.items result.work }
+{
+    let ConnectorEnd {
+        seat,
+        hop,
+        link,
+        log,
+        unsent,
+    } = connector.run();
+    Left {
+        passes: seat.into_passes(),
+        work: Work::Connected {
+            hop,
+            link,
+            log,
+            unsent,
+        },
+    }
+}
+
+pub(crate) fn run_keeper<H: Wait, R: Rack, S: Suite, N: LinkIn, O: LinkOut, C: Clock>(
+    keeper: Keeper<'_, H, R, S, C>,
+) -> LeftBy<R, S, N, O>
+    ensures seat { LeavesClaims keeper.entry.seat result.passes.items }
+    ensures log { LogsTakes keeper.entry.seat result.passes.items result.work }
+{
+    let KeeperEnd {
+        seat,
+        local,
+        log,
+        unsent,
+    } = keeper.run();
+    Left {
+        passes: seat.into_passes(),
+        work: Work::Kept { local, log, unsent },
+    }
+}
+
+pub(crate) fn run_rotator<H: Wait, R: Rack, S: Suite, N: LinkIn, O: LinkOut, C: Clock>(
+    rotator: Rotator<'_, H, R, S, C>,
+) -> LeftBy<R, S, N, O>
+    ensures { LeavesDrained rotator.entry.seat result.passes.items }
+{
+    let Rotator {
+        seat,
+        claims: _,
+        clock: _,
+        tried: _,
+    } = rotator.run();
+    Left {
+        passes: seat.into_passes(),
+        work: Work::Rotated,
+    }
+}
+
+pub(crate) fn run_spare<H: Wait, R: Rack, S: Suite, N: LinkIn, O: LinkOut>(
+    spare: Spare<'_, H, R, S>,
+) -> LeftBy<R, S, N, O>
+    ensures { LeavesClaims spare.entry.seat result.passes.items }
+{
+    let Spare { mut seat, claims } = spare;
+    if seat.caller % 2 == 0 {
+        end_all(&mut seat);
+        claims.ring_all();
+    }
+    Left {
+        passes: seat.into_passes(),
+        work: Work::Ended,
+    }
+}
+
+pub(crate) fn run_feed<R: Rack, S: Suite, N: LinkIn, O: LinkOut>(
+    feeder: Feeder<O>,
+) -> LeftBy<R, S, N, O>
+    ensures { result.passes.items ≡ [] }
+{
+    let Feeder { alloc, feed } = feeder;
+    Left {
+        passes: Vec::new(alloc),
+        work: Work::Fed { link: feed.run() },
+    }
+}
