@@ -2,20 +2,19 @@
 #![tactic(auto)]
 
 mod program;
-mod streams;
 #[cfg(test)]
 mod tests;
 
 use mix_top::Bench;
 use program::{run, run_without_disks};
+use real_edges::{StdErr, StdSink, StdSource};
 use std::env;
 use std::process::ExitCode;
-use streams::{StdSink, StdSource};
 
 fn main(rt: HostRuntime) -> ExitCode {
-    let mut input = StdSource::new(rt.stdin());
-    let mut output = StdSink::new(rt.stdout());
-    let mut errors = StdSink::new(rt.stderr());
+    let mut input = StdSource::new(&rt);
+    let mut output = StdSink::new(&rt);
+    let mut errors = StdErr::new(&rt);
     let Ok(mut bench) = Bench::in_memory(rt.alloc()) else {
         return ExitCode::from(run_without_disks(rt.alloc(), &mut errors).code);
     };
