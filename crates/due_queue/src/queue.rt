@@ -89,7 +89,8 @@ impl<T: Due> DueQueue<T> {
         requires { 1 ≤ spare self.old (T.told item).dest }
         ensures items { IsPermutation (self.old.items ++ item ∷ []) self.new.items }
         ensures spare { spare self.old (T.told item).dest ≤ spare self.new (T.told item).dest + 1 }
-        ensures others { (other : Dest) → same_dest (T.told item).dest other ≡ false → spare self.new other ≡ spare self.old other }
+        ensures others { (other : Dest) → same_dest (T.told item).dest other ≡ false →
+            spare self.new other ≡ spare self.old other }
     {
         remove_entry(&mut self.reserved, &item.dest());
         self.items.push_reserved(item);
@@ -99,7 +100,8 @@ impl<T: Due> DueQueue<T> {
     /// Takes no memory.
     pub fn take(&mut self, dest: &Dest, moment: u64) -> Option<T>
         ensures taken { IfSome result (IsFirstDue T.told (Some dest.now) moment self.old.items) }
-        ensures rest { IfSome result (λ item. IsPermutation self.old.items (item ∷ self.new.items)) }
+        ensures rest { IfSome result
+            (λ item. IsPermutation self.old.items (item ∷ self.new.items)) }
         ensures none { IfNone result (NoneDue T.told (Some dest.now) moment self.old.items) }
         ensures unchanged { IfNone result (self.new ≡ self.old) }
     {
@@ -109,7 +111,9 @@ impl<T: Due> DueQueue<T> {
 
     /// When the first item that is due at the moment is due, its number and its destination, over all destinations.
     pub fn next_due(&self, moment: u64) -> Option<Next>
-        ensures first { IfSome result (λ next. (item : T) × IsFirstDue T.told None moment self.now.items item × (next ≡ T.told item)) }
+        ensures first { IfSome result
+            (λ next. (item : T) × IsFirstDue T.told None moment self.now.items item ×
+            (next ≡ T.told item)) }
         ensures none { IfNone result (NoneDue T.told None moment self.now.items) }
     {
         let place = first_due(&self.items, None, moment)?;
@@ -143,7 +147,8 @@ impl<T: Due> DueQueue<T> {
 fn remove_entry(reserved: &mut Vec<Dest>, dest: &Dest)
     requires { 1 ≤ room_for reserved.old.items dest.now }
     ensures room { room_for reserved.old.items dest.now ≡ room_for reserved.new.items dest.now + 1 }
-    ensures others { (other : Dest) → same_dest dest.now other ≡ false → room_for reserved.new.items other ≡ room_for reserved.old.items other }
+    ensures others { (other : Dest) → same_dest dest.now other ≡ false →
+        room_for reserved.new.items other ≡ room_for reserved.old.items other }
     ensures fewer { vec_len reserved.new + 1 ≡ vec_len reserved.old }
 {
     if let Some(place) = entry_for(reserved, dest) {

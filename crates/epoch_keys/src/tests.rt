@@ -143,7 +143,15 @@ fn a_ring_at_moments_out_of_order(rt: HostRuntime) -> Result<(), Fail> {
 struct EvenKem;
 
 impl Kem for EvenKem {
-    ghost scheme = { record { public_key = 0; secret_key = 0; ciphertext = 0; coins = 0; pair = λ words. if words 0 % 2 == 0 then Some ([], []) else None; encapsulate = λ _ _. None; decapsulate = λ _ _. None } };
+    ghost scheme = { record {
+      public_key = 0;
+      secret_key = 0;
+      ciphertext = 0;
+      coins = 0;
+      pair = λ words. if words 0 % 2 == 0 then Some ([], []) else None;
+      encapsulate = λ _ _. None;
+      decapsulate = λ _ _. None;
+    } };
 
     ghost PK = { 0 };
 
@@ -220,7 +228,14 @@ impl Suite for EvenSuite {
 
     type W = Lioness;
 
-    ghost meaning = { record { kem = ⟦<EvenKem as Kem>⟧.scheme; mac = hmac; hop_keys = hop_keys; stream = chacha_byte; encrypt = lioness_encrypted; decrypt = lioness_decrypted } };
+    ghost meaning = { record {
+      kem = ⟦<EvenKem as Kem>⟧.scheme;
+      mac = hmac;
+      hop_keys = hop_keys;
+      stream = chacha_byte;
+      encrypt = lioness_encrypted;
+      decrypt = lioness_decrypted;
+    } };
 
     ghost made_of_parts = { refl };
 }

@@ -9,4 +9,3 @@ pub mod Progress
 pub mod Products
 pub mod Shifts
 pub mod Laws
-pub mod RingLaws

@@ -9,7 +9,6 @@ use Rattle.ntru_ring.specs.Centring.{IsCongruent}
 use Rattle.field_solve.specs.Elimination.{AllBelow, AreCleared, AreRows, Combines, StandsAt, times, nothing}
 use Rattle.field_solve.specs.declared.rows.Row.{Row}
 use Rattle.field_solve.proofs.Congruences.{congruent-add, congruent-mul, congruent_same, congruent_chained, congruent_turned, congruent-scaled, congruent-multiple}
-use Rattle.field_solve.proofs.Primes.{product_below}
 use Rattle.field_solve.proofs.Linear.{IsSum, coefficient_of, coefficient_of-linear, coefficient_of-congruent, coefficient_of-multiple}
 
 times-linear : (poly : ℕ → ℤ) (sum first second : List ℕ) (factor : ℕ) → ((place : ℕ) → slice_index sum place ≡ slice_index first place + factor * slice_index second place) → IsSum (times poly sum) (times poly first) (pos factor) (times poly second)
@@ -33,14 +32,6 @@ Combines-add_multiple prime poly start combination entries combination-sum entri
       let zero_start : pos 0 +ℤ times poly row-combination place ≡ times poly row-combination place = omega (arith, ints) in
       let same : pos factor *ℤ (pos 0 +ℤ times poly row-combination place) ≡ pos factor *ℤ times poly row-combination place = ap (λ z. pos factor *ℤ z) zero_start in
       (all.0, omega (arith, ints, all.1, left, linear, same));
-}
-
--- the sums grow by less than 2^25
-pub AllBelow-add_multiple : (bound factor : ℕ) (sums before list : List ℕ) → factor < 4591 → AllBelow 4591 list → AllBelow bound before
-    → ((place : ℕ) → slice_index sums place ≡ slice_index before place + factor * slice_index list place)
-    → AllBelow (bound + 2 ^ 25) sums
-AllBelow-add_multiple bound factor sums before list small below room is = record {
-  below = λ place. omega (arith, is place, room.below place, product_below factor (slice_index list place) (omega arith) (below.below place));
 }
 
 pub AllBelow-more : (low high : ℕ) (numbers : List ℕ) → low ≤ high → AllBelow low numbers → AllBelow high numbers

@@ -23,7 +23,8 @@ pub(crate) fn add_multiple(sums: &mut [u64], factor: u32, list: &[u32])
     requires small { AllBelow 4591 list.now }
     requires small_factor { factor < 4591 }
     ensures { (place : ℕ)
-        → slice_index sums.new place ≡ slice_index sums.old place + factor * slice_index list.now place }
+        → slice_index sums.new place
+        ≡ slice_index sums.old place + factor * slice_index list.now place }
 {
     for i in 0..list.len() {
         sums[i] += u64::from(factor) * u64::from(list[i]);

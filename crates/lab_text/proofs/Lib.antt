@@ -1,3 +1,4 @@
 pub mod Giving
 pub mod LinesOf
+pub mod SettingKeys
 pub mod WordsOf

@@ -1,7 +1,7 @@
 -- What an input says: a value, or where it stops to say one; and how reading it may end.
 use Rattle.std.specs.Prelude.{◌≡◌, ⊤, ℕ, Option, Some, None, Result, Ok, Err}
 use Rattle.lab_text.specs.declared.statuses.Status.{Status}
-use Rattle.lab_text.specs.declared.statuses.Status.TheVariants.{Done, Words, Line, ReadFault, WriteFault, Foreign, OtherShape, Memory, NoKey}
+use Rattle.lab_text.specs.declared.statuses.Status.TheVariants.{Done, Words, Line, Key, ReadFault, WriteFault, Foreign, OtherShape, Memory, NoThread, NoKey, NoLine, Disk}
 
 -- a value; or the number of the first line that is outside the grammar; or an epoch that has no key
 pub data Outcome (A : Type 0) : Type 0 where
@@ -34,6 +34,10 @@ Reads outcome (Err Words) = ⊥
 Reads outcome (Err WriteFault) = ⊥
 Reads outcome (Err (Foreign node shard area at)) = ⊥
 Reads outcome (Err (OtherShape node shard stored asked)) = ⊥
+Reads outcome (Err (Key key)) = ⊥
+Reads outcome (Err NoThread) = ⊥
+Reads outcome (Err NoLine) = ⊥
+Reads outcome (Err (Disk node shard)) = ⊥
 
 -- what reading an input may end with
 abbrev pub EndsReading : Status → Type 0
@@ -46,3 +50,7 @@ EndsReading WriteFault = ⊥
 EndsReading (Foreign node shard area at) = ⊥
 EndsReading (OtherShape node shard stored asked) = ⊥
 EndsReading (NoKey epoch) = ⊥
+EndsReading (Key key) = ⊥
+EndsReading NoThread = ⊥
+EndsReading NoLine = ⊥
+EndsReading (Disk node shard) = ⊥

@@ -33,7 +33,8 @@ impl SizesLine {
 
 /// SUITE HOPS BODY as the first words, and what stands behind them.
 pub fn next_sizes(rest: &[u8]) -> Option<(SizesLine, &[u8])>
-    ensures exact { option_map (λ x. (x.0, words_of x.1.now)) result ≡ sizes_in (words_of rest.now) }
+    ensures exact { option_map (λ x. (x.0, words_of x.1.now)) result
+        ≡ sizes_in (words_of rest.now) }
     ensures in_range { IfSome result (λ x. AreSizesInRange x.0) }
 {
     let (name, rest) = next_word(rest)?;

@@ -6,9 +6,9 @@ ghost use Rattle.std.specs.String.{string_bytes};
 ghost use Rattle.mix_base.specs.Faults.{Rose};
 ghost use Rattle.mix_base.specs.Writing.{GivesFront};
 ghost use Rattle.lab_text.specs.Statuses.{code_of, shape_word, status_text};
-ghost use Rattle.lab_text.specs.declared.statuses.Status.TheVariants.{Foreign, OtherShape};
+ghost use Rattle.lab_text.specs.declared.statuses.Status.TheVariants.{Disk, Foreign, Key, OtherShape};
 
-use crate::LineFault;
+use crate::{ConfigFault, LineFault, key_name};
 use mix_base::{PutFault, Shape, Sink};
 use std::alloc::{AllocError, Global};
 
@@ -22,6 +22,10 @@ pub enum Status {
     /// The line of this number is the first outside the grammar.
     Line {
         line: u64,
+    },
+    /// The key at this place is the first of the settings that is bad.
+    Key {
+        key: u8,
     },
     /// The source failed.
     ReadFault,
@@ -42,9 +46,18 @@ pub enum Status {
         asked: Shape,
     },
     Memory,
+    /// A thread didn't start.
+    NoThread,
     /// The words of this epoch make no key pair.
     NoKey {
         epoch: u64,
+    },
+    /// A line from node to node didn't come about.
+    NoLine,
+    /// The disk of this shard failed.
+    Disk {
+        node: u32,
+        shard: u8,
     },
 }
 
@@ -58,6 +71,19 @@ impl From<LineFault> for Status {
             LineFault::BadLine { number } => Status::Line { line: number },
             LineFault::ReadFault => Status::ReadFault,
             LineFault::Memory => Status::Memory,
+        }
+    }
+}
+
+impl From<ConfigFault> for Status {
+    ghost use Rattle.lab_text.specs.Statuses.{config_status};
+
+    ghost from_gives = { λ fault status. status ≡ config_status fault };
+
+    fn from(fault: ConfigFault) -> Status {
+        match fault {
+            ConfigFault::BadConfig { key } => Status::Key { key },
+            ConfigFault::Memory => Status::Memory,
         }
     }
 }
@@ -82,12 +108,15 @@ pub fn code(status: &Status) -> u8
     match status {
         Status::Done => 0,
         Status::Words => 1,
-        Status::Line { .. } => 2,
+        Status::Line { .. } | Status::Key { .. } => 2,
         Status::ReadFault => 3,
         Status::WriteFault => 4,
         Status::Foreign { .. } | Status::OtherShape { .. } => 5,
         Status::Memory => 6,
+        Status::NoThread => 7,
         Status::NoKey { .. } => 8,
+        Status::NoLine => 9,
+        Status::Disk { .. } => 10,
     }
 }
 
@@ -105,6 +134,7 @@ pub fn write_status<O: Sink>(alloc: Global, sink: &mut O, status: &Status) -> Re
         Status::Done => sink.put(alloc, b""),
         Status::Words => sink.put(alloc, b"mix: words\n"),
         Status::Line { line } => write_line(alloc, sink, "mix: line ", *line),
+        Status::Key { key } => write_key(alloc, sink, *key),
         Status::ReadFault => sink.put(alloc, b"mix: read fault\n"),
         Status::WriteFault => sink.put(alloc, b"mix: write fault\n"),
         Status::Foreign {
@@ -120,7 +150,10 @@ pub fn write_status<O: Sink>(alloc: Global, sink: &mut O, status: &Status) -> Re
             asked,
         } => write_other_shape(alloc, sink, *node, *shard, stored, asked),
         Status::Memory => sink.put(alloc, b"mix: memory\n"),
+        Status::NoThread => sink.put(alloc, b"mix: no thread\n"),
         Status::NoKey { epoch } => write_line(alloc, sink, "mix: no key for epoch ", *epoch),
+        Status::NoLine => sink.put(alloc, b"mix: no line\n"),
+        Status::Disk { node, shard } => write_disk(alloc, sink, *node, *shard),
     }
 }
 
@@ -146,6 +179,31 @@ fn line_text(alloc: Global, text: &str, line: u64) -> Result<String, AllocError>
     ensures { IfOk result (λ piece. string_bytes piece ≡ text.now ++ decimal line ++ 10 ∷ []) }
 {
     format!(in alloc; "{text}{line}\n")
+}
+
+// Gives the text of a key that is bad.
+fn write_key<O: Sink>(alloc: Global, sink: &mut O, key: u8) -> Result<(), PutFault>
+    ensures whole { OnOk result (IfSome (O.given sink.old) (λ before.
+        O.given sink.new ≡ Some (before ++ status_text (Key key)))) }
+    ensures front { OnErr result (IfSome (O.given sink.old) (λ before.
+        IsSomeAnd (O.given sink.new) (λ after.
+        GivesFront before after (status_text (Key key))))) }
+    ensures fault { IsErrOf result PutFault.WriteFault →
+        Rose (O.faults sink.old) (O.faults sink.new) }
+    ensures count { O.faults sink.old ≤ O.faults sink.new }
+{
+    match key_text(alloc, key) {
+        Ok(piece) => sink.put(alloc, piece.as_bytes()),
+        Err(_) => Err(PutFault::Memory),
+    }
+}
+
+// The text of a key that is bad.
+fn key_text(alloc: Global, key: u8) -> Result<String, AllocError>
+    ensures { IfOk result (λ piece. string_bytes piece ≡ status_text (Key key)) }
+{
+    let name = key_name(key);
+    format!(in alloc; "mix: key {name}\n")
 }
 
 // Gives the text of a journal that holds what no store has written.
@@ -233,4 +291,28 @@ fn shape_word(alloc: Global, shape: &Shape) -> Result<String, AllocError>
 {
     let (shards, index) = (shape.shards, shape.index);
     format!(in alloc; "{shards}/{index}")
+}
+
+// Gives the text of a disk that failed.
+fn write_disk<O: Sink>(alloc: Global, sink: &mut O, node: u32, shard: u8) -> Result<(), PutFault>
+    ensures whole { OnOk result (IfSome (O.given sink.old) (λ before.
+        O.given sink.new ≡ Some (before ++ status_text (Disk node shard)))) }
+    ensures front { OnErr result (IfSome (O.given sink.old) (λ before.
+        IsSomeAnd (O.given sink.new) (λ after.
+        GivesFront before after (status_text (Disk node shard))))) }
+    ensures fault { IsErrOf result PutFault.WriteFault →
+        Rose (O.faults sink.old) (O.faults sink.new) }
+    ensures count { O.faults sink.old ≤ O.faults sink.new }
+{
+    match disk_text(alloc, node, shard) {
+        Ok(piece) => sink.put(alloc, piece.as_bytes()),
+        Err(_) => Err(PutFault::Memory),
+    }
+}
+
+// The text of a disk that failed.
+fn disk_text(alloc: Global, node: u32, shard: u8) -> Result<String, AllocError>
+    ensures { IfOk result (λ piece. string_bytes piece ≡ status_text (Disk node shard)) }
+{
+    format!(in alloc; "mix: disk {node} {shard}\n")
 }

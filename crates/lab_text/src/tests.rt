@@ -1,5 +1,6 @@
-// What no clause says: that lines and texts come out as written, and that a failed read is named and loses nothing.
+// What no clause says: that lines, settings and texts come out as written, and that a failed read is named and loses nothing.
 mod script_lines;
+mod settings;
 
 use crate::{LineFault, LineReader, Status, code, write_status};
 use mix_base::{MemSink, MemSource, Shape, Source};
@@ -89,8 +90,8 @@ fn texts_of_statuses(rt: HostRuntime) -> Result<(), Fail> {
     Ok(())
 }
 
-/// What each status of a journal or a key is written as, and its code.
-const TEXTS: [(Status, u8, &str); 4] = [
+/// What each status of a journal, a disk, a thread, a line or a key is written as, and its code.
+const TEXTS: [(Status, u8, &str); 7] = [
     (
         Status::Foreign {
             node: 4_294_967_295,
@@ -133,11 +134,55 @@ const TEXTS: [(Status, u8, &str); 4] = [
         5,
         "mix: journal 7 3 stored 16/2 asked 16/3\n",
     ),
+    (Status::NoThread, 7, "mix: no thread\n"),
     (Status::NoKey { epoch: 12 }, 8, "mix: no key for epoch 12\n"),
+    (Status::NoLine, 9, "mix: no line\n"),
+    (
+        Status::Disk {
+            node: 4_294_967_295,
+            shard: 15,
+        },
+        10,
+        "mix: disk 4294967295 15\n",
+    ),
+];
+
+/// The name of each place of the settings, and of two behind them.
+const NAMES: [(u8, &str); 17] = [
+    (0, "toml"),
+    (1, "suite"),
+    (2, "body"),
+    (3, "layers"),
+    (4, "width"),
+    (5, "workers"),
+    (6, "shards"),
+    (7, "epoch_ms"),
+    (8, "grace_ms"),
+    (9, "seed"),
+    (10, "messages"),
+    (11, "delay_threshold"),
+    (12, "delay_unit"),
+    (13, "delay_cap"),
+    (14, "unknown"),
+    (15, "unknown"),
+    (255, "unknown"),
 ];
 
 #[test]
-fn texts_of_journals_and_keys(rt: HostRuntime) -> Result<(), Fail> {
+fn texts_of_settings(rt: HostRuntime) -> Result<(), Fail> {
+    let alloc = rt.alloc();
+    for (key, name) in NAMES {
+        let mut sink = MemSink::new(alloc, Vec::new(alloc));
+        write_status(alloc, &mut sink, &Status::Key { key })?;
+        let text = format!(in alloc; "mix: key {name}\n")?;
+        assert!(rt; sink.bytes() == text.as_bytes(), "{name}");
+        assert!(rt; code(&Status::Key { key }) == 2, "{name}");
+    }
+    Ok(())
+}
+
+#[test]
+fn texts_of_journals_and_disks(rt: HostRuntime) -> Result<(), Fail> {
     let alloc = rt.alloc();
     for (status, number, text) in TEXTS {
         let mut sink = MemSink::new(alloc, Vec::new(alloc));

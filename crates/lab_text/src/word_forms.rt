@@ -14,7 +14,8 @@ use std::alloc::Global;
 /// The first word of a line and what stands behind it, where the line says something: it has a word, and its first
 /// doesn't begin with `#`.
 pub fn said_line(line: &[u8]) -> Option<(&[u8], &[u8])>
-    ensures { option_map (λ x. (x.0.now, words_of x.1.now)) result ≡ said_words (words_of line.now) }
+    ensures { option_map (λ x. (x.0.now, words_of x.1.now)) result
+        ≡ said_words (words_of line.now) }
 {
     let (first, rest) = next_word(line)?;
     if first[0] == b'#' {
@@ -44,7 +45,8 @@ pub fn one_word(rest: &[u8]) -> Option<&[u8]>
 
 /// The only two words.
 pub fn only_two(rest: &[u8]) -> Option<(&[u8], &[u8])>
-    ensures { option_map (λ both. (both.0.now, both.1.now)) result ≡ both_words (words_of rest.now) }
+    ensures { option_map (λ both. (both.0.now, both.1.now)) result
+        ≡ both_words (words_of rest.now) }
 {
     let (first, others) = next_word(rest)?;
     let second = one_word(others)?;
@@ -53,7 +55,8 @@ pub fn only_two(rest: &[u8]) -> Option<(&[u8], &[u8])>
 
 /// A number in a range as the first word, and what stands behind it.
 pub fn next_number(rest: &[u8], low: u64, high: u64) -> Option<(u64, &[u8])>
-    ensures exact { option_map (λ x. (x.0, words_of x.1.now)) result ≡ first_number low high (words_of rest.now) }
+    ensures exact { option_map (λ x. (x.0, words_of x.1.now)) result
+        ≡ first_number low high (words_of rest.now) }
     ensures in_range { IfSome result (λ x. (low ≤ x.0) × (x.0 ≤ high)) }
 {
     let (word, others) = next_word(rest)?;

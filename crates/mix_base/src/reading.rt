@@ -57,7 +57,13 @@ impl Model for MemSource {
 
     ghost Value = { SourceState };
 
-    ghost view = { λ s. record { left = drop s.place s.bytes.items; failing = s.failing.items; calls = s.calls; faults = s.faults } };
+    ghost view = { λ s.
+        record {
+          left = drop s.place s.bytes.items;
+          failing = s.failing.items;
+          calls = s.calls;
+          faults = s.faults;
+        } };
 
     ghost invariant = { λ s. s.place ≤ vec_len s.bytes };
 }
@@ -65,7 +71,8 @@ impl Model for MemSource {
 impl MemSource {
     /// Has these bytes left. Takes no memory.
     pub fn new(bytes: Vec<u8>, failing: Vec<u64>) -> MemSource
-        ensures { result ≡ record { left = bytes.items; failing = failing.items; calls = 0; faults = 0 } }
+        ensures { result
+            ≡ record { left = bytes.items; failing = failing.items; calls = 0; faults = 0 } }
     {
         MemSource {
             bytes,

@@ -23,7 +23,7 @@ pub struct HopKeys {
 }
 
 /// A stream cipher.
-pub trait Stream: Drop + Send + Sync {
+pub trait Stream: Drop {
     /// The stream's byte at each place from 0 under a key.
     ghost byte: { List ℕ → ℕ → ℕ };
 
@@ -32,11 +32,13 @@ pub trait Stream: Drop + Send + Sync {
         ensures { buf.new ≡ xor_stream (byte key.now) 0 buf.old };
 
     /// A second xor with the same key undoes the first.
-    ghost undoes: { (key bytes : List ℕ) → xor_stream (byte key) 0 (xor_stream (byte key) 0 bytes) ≡ bytes } = { λ key bytes. xor_stream-xor_stream (byte key) 0 bytes };
+    ghost undoes: { (key bytes : List ℕ) →
+        xor_stream (byte key) 0 (xor_stream (byte key) 0 bytes) ≡ bytes } = { λ key bytes.
+            xor_stream-xor_stream (byte key) 0 bytes };
 }
 
 /// A message authentication code.
-pub trait Mac: Drop + Send + Sync {
+pub trait Mac: Drop {
     /// The code of a message under a key.
     ghost code: { List ℕ → List ℕ → List ℕ };
 
@@ -45,11 +47,12 @@ pub trait Mac: Drop + Send + Sync {
         ensures { result ≡ code key.now message.now };
 
     /// It has 32 bytes under every key of that length.
-    ghost code_length: { (key message : List ℕ) → length key ≡ 32 → length (code key message) ≡ 32 };
+    ghost code_length: { (key message : List ℕ) → length key ≡ 32 →
+        length (code key message) ≡ 32 };
 }
 
 /// A derivation of a hop's keys.
-pub trait Kdf: Drop + Send + Sync {
+pub trait Kdf: Drop {
     /// The keys of a secret.
     ghost keys: { List ℕ → HopKeys };
 
@@ -59,7 +62,7 @@ pub trait Kdf: Drop + Send + Sync {
 }
 
 /// A block cipher whose block is the whole message. A block is longer than 32 bytes.
-pub trait Wide: Drop + Send + Sync {
+pub trait Wide: Drop {
     ghost encrypted: { List ℕ → List ℕ → List ℕ };
 
     ghost decrypted: { List ℕ → List ℕ → List ℕ };
@@ -75,15 +78,19 @@ pub trait Wide: Drop + Send + Sync {
         ensures { block.new ≡ decrypted key.now block.old };
 
     /// Decryption undoes encryption.
-    ghost decrypts: { (key block : List ℕ) → 32 < length block → decrypted key (encrypted key block) ≡ block };
+    ghost decrypts: { (key block : List ℕ) → 32 < length block →
+        decrypted key (encrypted key block) ≡ block };
 
     /// Encryption undoes decryption.
-    ghost encrypts: { (key block : List ℕ) → 32 < length block → encrypted key (decrypted key block) ≡ block };
+    ghost encrypts: { (key block : List ℕ) → 32 < length block →
+        encrypted key (decrypted key block) ≡ block };
 
     /// Both keep the length of a block.
-    ghost encrypted_length: { (key block : List ℕ) → 32 < length block → length (encrypted key block) ≡ length block };
+    ghost encrypted_length: { (key block : List ℕ) → 32 < length block →
+        length (encrypted key block) ≡ length block };
 
-    ghost decrypted_length: { (key block : List ℕ) → 32 < length block → length (decrypted key block) ≡ length block };
+    ghost decrypted_length: { (key block : List ℕ) → 32 < length block →
+        length (decrypted key block) ≡ length block };
 }
 
 /// Why `Kem::pair` gave no pair.
@@ -108,7 +115,7 @@ pub enum EncapFault {
 
 /// A key encapsulation mechanism. After a refusal the output slices hold any bytes; want of memory leaves them as they
 /// were.
-pub trait Kem: Drop + Send + Sync {
+pub trait Kem: Drop {
     /// Its lengths and functions.
     ghost scheme: { KemScheme };
 
@@ -164,7 +171,8 @@ pub trait Kem: Drop + Send + Sync {
         requires coins { length coins.now ≡ COINS }
         requires ciphertext_length { length ct.old ≡ CT }
         ensures ok { OnOk result (scheme.encapsulate pk.now coins.now ≡ Some (ct.new, secret.new)) }
-        ensures key_form { IsErrOf result EncapFault.KeyForm → scheme.encapsulate pk.now coins.now ≡ None }
+        ensures key_form { IsErrOf result EncapFault.KeyForm →
+            scheme.encapsulate pk.now coins.now ≡ None }
         ensures memory_ciphertext { IsErrOf result EncapFault.Memory → ct.new ≡ ct.old }
         ensures memory_secret { IsErrOf result EncapFault.Memory → secret.new ≡ secret.old };
 
@@ -172,7 +180,9 @@ pub trait Kem: Drop + Send + Sync {
     fn decap(alloc: Global, sk: &[u8], ct: &[u8], secret: &mut [u8; 32]) -> Result<bool, Memory>
         requires secret_length { length sk.now ≡ SK }
         requires ciphertext_length { length ct.now ≡ CT }
-        ensures answer { IfOk result (λ found. scheme.decapsulate sk.now ct.now ≡ (if found then Some secret.new else None)) }
+        ensures answer { IfOk result
+            (λ found. scheme.decapsulate sk.now ct.now
+            ≡ (if found then Some secret.new else None)) }
         ensures lean { IsTrue LEAN → IsOk result }
         ensures memory { OnErr result (secret.new ≡ secret.old) };
 
@@ -187,7 +197,7 @@ pub trait Kem: Drop + Send + Sync {
 }
 
 /// A cipher suite: the five parts that a packet is made with.
-pub trait Suite: Drop + Send + Sync {
+pub trait Suite: Drop {
     type K: Kem;
 
     type M: Mac;
@@ -202,5 +212,13 @@ pub trait Suite: Drop + Send + Sync {
     ghost meaning: { SuiteMeaning };
 
     /// It is what its parts compute.
-    ghost made_of_parts: { meaning ≡ record { kem = Self.K.scheme; mac = Self.M.code; hop_keys = Self.D.keys; stream = Self.C.byte; encrypt = Self.W.encrypted; decrypt = Self.W.decrypted } };
+    ghost made_of_parts: { meaning
+        ≡ record {
+          kem = Self.K.scheme;
+          mac = Self.M.code;
+          hop_keys = Self.D.keys;
+          stream = Self.C.byte;
+          encrypt = Self.W.encrypted;
+          decrypt = Self.W.decrypted;
+        } };
 }

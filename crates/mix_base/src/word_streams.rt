@@ -29,14 +29,17 @@ impl ListWords {
     /// Starts at the first word. Asks a list that isn't empty. Takes no memory.
     pub fn new(list: Vec<u32>) -> ListWords
         requires { 0 < vec_len list }
-        ensures { (place : ℕ) → ⟦<ListWords as Words>⟧.to_come result place ≡ slice_index list.items (place % vec_len list) }
+        ensures { (place : ℕ) →
+            ⟦<ListWords as Words>⟧.to_come result place
+            ≡ slice_index list.items (place % vec_len list) }
     {
         ListWords { list, place: 0 }
     }
 }
 
 impl Words for ListWords {
-    ghost to_come = { λ words place. slice_index words.list.items ((words.place + place) % vec_len words.list) };
+    ghost to_come = { λ words place.
+        slice_index words.list.items ((words.place + place) % vec_len words.list) };
 
     fn next(&mut self) -> u32 {
         let word = self.list[self.place];

@@ -45,10 +45,12 @@ pub trait Sink: Drop {
 
     /// Gives the whole piece, or after a refusal a front of it.
     fn put(&mut self, alloc: Global, bytes: &[u8]) -> Result<(), PutFault>
-        ensures whole { OnOk result (IfSome (given self.old) (λ before. given self.new ≡ Some (before ++ bytes.now))) }
+        ensures whole { OnOk result
+            (IfSome (given self.old) (λ before. given self.new ≡ Some (before ++ bytes.now))) }
         ensures front { OnErr result (IfSome (given self.old) (λ before.
             IsSomeAnd (given self.new) (λ after. GivesFront before after bytes.now))) }
-        ensures fault { IsErrOf result PutFault.WriteFault → Rose (faults self.old) (faults self.new) }
+        ensures fault { IsErrOf result PutFault.WriteFault →
+            Rose (faults self.old) (faults self.new) }
         ensures count { faults self.old ≤ faults self.new };
 }
 
@@ -76,7 +78,13 @@ impl Model for MemSink {
 
     ghost Value = { SinkState };
 
-    ghost view = { λ s. record { given = s.bytes.items; failing = s.failing.items; calls = s.calls; faults = s.faults } };
+    ghost view = { λ s.
+        record {
+          given = s.bytes.items;
+          failing = s.failing.items;
+          calls = s.calls;
+          faults = s.faults;
+        } };
 }
 
 impl MemSink {
@@ -108,14 +116,17 @@ impl Sink for MemSink {
     fn put(&mut self, _alloc: Global, bytes: &[u8]) -> Result<(), PutFault>
         ensures whole { OnOk result (self.new.given ≡ self.old.given ++ bytes.now) }
         ensures front { OnErr result (self.new.given ≡ self.old.given) }
-        ensures fault { IsErrOf result PutFault.WriteFault → self.new.faults ≡ one_more self.old.faults }
+        ensures fault { IsErrOf result PutFault.WriteFault →
+            self.new.faults ≡ one_more self.old.faults }
         ensures count { self.old.faults ≤ self.new.faults }
 
         // Just the listed calls fail, and no other raises the count.
         ensures calls { self.new.calls ≡ min (self.old.calls + 1) (2 ^ 64 - 1) }
-        ensures listed { IsErrOf result PutFault.WriteFault ↔ Contains self.old.failing self.new.calls }
+        ensures listed { IsErrOf result PutFault.WriteFault
+            ↔ Contains self.old.failing self.new.calls }
         ensures failing { self.new.failing ≡ self.old.failing }
-        ensures no_fault { (IsErrOf result PutFault.WriteFault → ⊥) → self.new.faults ≡ self.old.faults }
+        ensures no_fault { (IsErrOf result PutFault.WriteFault → ⊥) →
+            self.new.faults ≡ self.old.faults }
     {
         self.calls = self.calls.saturating_add(1);
         if self.failing.contains(&self.calls) {

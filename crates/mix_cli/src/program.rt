@@ -68,7 +68,8 @@ pub fn run<I: Source, O: Sink, E: Sink, C: CrashRack, K: Rack>(
     ensures untouched { result.status ≡ Status.Words →
         (source.new ≡ source.old) × (sink.new ≡ sink.old) }
     ensures headline { OnWords result.words (λ words. OnDrive words
-        (AnswersScript C.tells (I.left source.old) result.status (O.given sink.old) (O.given sink.new)
+        (AnswersScript C.tells (I.left source.old) result.status
+        (O.given sink.old) (O.given sink.new)
         (map C.state bench.old.lab.items) (map C.state bench.new.lab.items))) }
     ensures storm { OnWords result.words (λ words. OnStorm words (λ named.
         AnswersStorm C.tells named result.status (O.given sink.old) (O.given sink.new)
@@ -80,7 +81,8 @@ pub fn run<I: Source, O: Sink, E: Sink, C: CrashRack, K: Rack>(
     ensures end { OnWords result.words (λ words. OnDrive words
         (result.status ≡ Status.Done → ReachesEnd (I.left source.old) (I.left source.new))) }
     ensures tool_text { OnWords result.words (λ words. OnTool words (λ command.
-        AnswersCommand command (I.left source.old) (O.given sink.old) (O.given sink.new) result.status)) }
+        AnswersCommand command (I.left source.old)
+        (O.given sink.old) (O.given sink.new) result.status)) }
     ensures tool_cause { OnWords result.words (λ words. OnTool words (λ command.
         ExplainsInput command (I.left source.old) result.status)) }
     ensures tool_kind { OnWords result.words (λ words.
@@ -125,7 +127,8 @@ pub fn run_without_disks<E: Sink>(alloc: Global, errors: &mut E) -> Ended
     ensures whole { OnOk result.told (IfSome (E.given errors.old) (λ before.
         E.given errors.new ≡ Some (before ++ status_text Status.Memory))) }
     ensures front { OnErr result.told (IfSome (E.given errors.old) (λ before.
-        IsSomeAnd (E.given errors.new) (λ after. GivesFront before after (status_text Status.Memory)))) }
+        IsSomeAnd (E.given errors.new)
+        (λ after. GivesFront before after (status_text Status.Memory)))) }
 {
     let told = write_status(alloc, errors, &Status::Memory);
     Ended {

@@ -25,7 +25,13 @@ impl Model for ListIn {
 
     ghost Value = { InState };
 
-    ghost view = { λ s. record { left = s.pipe.left; failing = s.failing.items; calls = s.calls; faults = s.faults } };
+    ghost view = { λ s.
+        record {
+          left = s.pipe.left;
+          failing = s.failing.items;
+          calls = s.calls;
+          faults = s.faults;
+        } };
 
     ghost invariant = { λ s. s.pipe.closed ≡ true };
 }
@@ -94,7 +100,13 @@ impl Model for ListOut {
 
     ghost Value = { OutState };
 
-    ghost view = { λ s. record { given = map (λ p. p.items) s.packets.items; failing = s.failing.items; calls = s.calls; faults = s.faults } };
+    ghost view = { λ s.
+        record {
+          given = map (λ p. p.items) s.packets.items;
+          failing = s.failing.items;
+          calls = s.calls;
+          faults = s.faults;
+        } };
 }
 
 impl ListOut {
@@ -120,7 +132,8 @@ impl ListOut {
 
     // Puts a copy of the packet behind the others.
     fn keep(&mut self, packet: &[u8]) -> Result<(), Failed>
-        ensures ok { OnOk result (self.new ≡ record self.old { given = self.old.given ++ packet.now ∷ [] }) }
+        ensures ok { OnOk result
+            (self.new ≡ record self.old { given = self.old.given ++ packet.now ∷ [] }) }
         ensures err { OnErr result (self.new ≡ self.old) }
     {
         let mut copy = Vec::new(self.alloc);

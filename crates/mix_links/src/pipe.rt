@@ -52,7 +52,8 @@ impl Pipe {
 
     // Puts the packet in behind the others. It fails where memory is wanting, and in a closed pipe.
     pub(crate) fn put(&mut self, packet: &[u8]) -> Result<(), Failed>
-        ensures ok { OnOk result (self.new ≡ record self.old { left = self.old.left ++ packet.now }) }
+        ensures ok { OnOk result
+            (self.new ≡ record self.old { left = self.old.left ++ packet.now }) }
         ensures err { OnErr result (self.new ≡ self.old) }
         ensures closed { self.old.closed ≡ true → IsErr result }
     {

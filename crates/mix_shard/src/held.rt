@@ -187,7 +187,8 @@ fn open_with<S: Suite>(
 ) -> Result<Opened, UnwrapFault>
     requires { geometry.now.ct ≡ S.K.CT }
     ensures exact { IsSomeAnd (epoch_secret_key S.meaning.kem key.now.seed key.now.epoch) (λ secret.
-        Gives cause_of result (opened_with S.meaning geometry.now packet.now (key.now.epoch, secret)).1) }
+        Gives cause_of result
+        (opened_with S.meaning geometry.now packet.now (key.now.epoch, secret)).1) }
     ensures length { IsErrOf result (UnwrapFault.Refused Refused.Length) ↔
         HasOtherLength geometry.now packet.now }
     ensures version { IsErrOf result (UnwrapFault.Refused Refused.Version) ↔
@@ -211,7 +212,8 @@ fn open_live<S: Suite>(
         ≡ live_epochs setup.now.times at }
     requires first_seed { keys.now.first.value.seed ≡ setup.now.seed }
     requires other_seed { IfSome keys.now.other (λ key. key.value.seed ≡ setup.now.seed) }
-    ensures exact { IsSomeAnd (opened_at S.meaning setup.now at packet.now) (Gives cause_of result) }
+    ensures exact { IsSomeAnd (opened_at S.meaning setup.now at packet.now)
+        (Gives cause_of result) }
     ensures length { IsErrOf result (UnwrapFault.Refused Refused.Length) ↔
         HasOtherLength setup.now.geometry packet.now }
     ensures version { IsErrOf result (UnwrapFault.Refused Refused.Version) ↔

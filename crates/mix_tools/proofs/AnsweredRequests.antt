@@ -6,7 +6,7 @@ use Rattle.lab_text.specs.Readers.{GivesLine, coming, lines_given}
 use Rattle.lab_text.specs.Words.{words_of}
 use Rattle.lab_text.specs.declared.lines.LineReader.{LineReader}
 use Rattle.lab_text.specs.declared.statuses.Status.{Status}
-use Rattle.lab_text.specs.declared.statuses.Status.TheVariants.{Done, Words, Line, ReadFault, WriteFault, Foreign, OtherShape, Memory, NoKey}
+use Rattle.lab_text.specs.declared.statuses.Status.TheVariants.{Done, Words, Line, Key, ReadFault, WriteFault, Foreign, OtherShape, Memory, NoThread, NoKey, NoLine, Disk}
 use Rattle.mix_base.specs.declared.reading.Source.{Ghosts}
 use Rattle.mix_tools.specs.Answers.{Answers, AnswersOutcome, EndsTool, Explains, IfKeyless}
 use Rattle.lab_text.specs.Outcomes.{EndsReading, Outcome, Says, Reads, ◌>>=◌}
@@ -33,6 +33,10 @@ nothing_given outcome given ReadFault reads ends = ([], sym (append-nil given), 
 nothing_given outcome given Memory reads ends = ([], sym (append-nil given), inl refl)
 nothing_given outcome given Done reads ends = absurd reads
 nothing_given outcome given Words reads ends = absurd reads
+nothing_given outcome given (Key key) reads ends = absurd reads
+nothing_given outcome given NoThread reads ends = absurd reads
+nothing_given outcome given NoLine reads ends = absurd reads
+nothing_given outcome given (Disk node shard) reads ends = absurd reads
 nothing_given outcome given WriteFault reads ends = absurd reads
 nothing_given outcome given (Foreign node shard area at) reads ends = absurd reads
 nothing_given outcome given (OtherShape node shard stored asked) reads ends = absurd reads
@@ -64,6 +68,10 @@ stop_explained outcome ReadFault reads ends = tt
 stop_explained outcome Memory reads ends = tt
 stop_explained outcome Done reads ends = absurd reads
 stop_explained outcome Words reads ends = absurd reads
+stop_explained outcome (Key key) reads ends = absurd reads
+stop_explained outcome NoThread reads ends = absurd reads
+stop_explained outcome NoLine reads ends = absurd reads
+stop_explained outcome (Disk node shard) reads ends = absurd reads
 stop_explained outcome WriteFault reads ends = absurd reads
 stop_explained outcome (Foreign node shard area at) reads ends = absurd reads
 stop_explained outcome (OtherShape node shard stored asked) reads ends = absurd reads
@@ -91,6 +99,10 @@ ends_tool ReadFault ends = tt
 ends_tool Memory ends = tt
 ends_tool Done ends = absurd ends
 ends_tool Words ends = absurd ends
+ends_tool (Key key) ends = absurd ends
+ends_tool NoThread ends = absurd ends
+ends_tool NoLine ends = absurd ends
+ends_tool (Disk node shard) ends = absurd ends
 ends_tool WriteFault ends = absurd ends
 ends_tool (Foreign node shard area at) ends = absurd ends
 ends_tool (OtherShape node shard stored asked) ends = absurd ends
@@ -103,6 +115,10 @@ keyed_reading ReadFault ends = tt
 keyed_reading Memory ends = tt
 keyed_reading Done ends = absurd ends
 keyed_reading Words ends = absurd ends
+keyed_reading (Key key) ends = absurd ends
+keyed_reading NoThread ends = absurd ends
+keyed_reading NoLine ends = absurd ends
+keyed_reading (Disk node shard) ends = absurd ends
 keyed_reading WriteFault ends = absurd ends
 keyed_reading (Foreign node shard area at) ends = absurd ends
 keyed_reading (OtherShape node shard stored asked) ends = absurd ends
@@ -117,6 +133,10 @@ stops_on outcome next ReadFault reads = tt
 stops_on outcome next Memory reads = tt
 stops_on outcome next Done reads = absurd reads
 stops_on outcome next Words reads = absurd reads
+stops_on outcome next (Key key) reads = absurd reads
+stops_on outcome next NoThread reads = absurd reads
+stops_on outcome next NoLine reads = absurd reads
+stops_on outcome next (Disk node shard) reads = absurd reads
 stops_on outcome next WriteFault reads = absurd reads
 stops_on outcome next (Foreign node shard area at) reads = absurd reads
 stops_on outcome next (OtherShape node shard stored asked) reads = absurd reads

@@ -5,7 +5,7 @@ use Rattle.lab_text.specs.Given.{Gave}
 use Rattle.lab_text.specs.Outcomes.{Outcome, Says, Outside, Keyless}
 use Rattle.lab_text.specs.Readers.{ReachesEnd}
 use Rattle.lab_text.specs.declared.statuses.Status.{Status}
-use Rattle.lab_text.specs.declared.statuses.Status.TheVariants.{Done, Words, Line, ReadFault, WriteFault, Foreign, OtherShape, Memory, NoKey}
+use Rattle.lab_text.specs.declared.statuses.Status.TheVariants.{Done, Words, Line, ReadFault, WriteFault, Memory, NoKey}
 use Rattle.mix_tools.specs.Suites.{scheme_for}
 use Rattle.mix_tools.specs.Texts.{owed}
 use Rattle.mix_tools.specs.declared.commands.Command.{Command}
@@ -26,9 +26,7 @@ Explains outcome (NoKey epoch) = outcome ≡ Keyless epoch
 Explains outcome WriteFault = IsSaid outcome
 Explains outcome ReadFault = ⊤
 Explains outcome Memory = ⊤
-Explains outcome Words = ⊥
-Explains outcome (Foreign node shard area at) = ⊥
-Explains outcome (OtherShape node shard stored asked) = ⊥
+Explains outcome _ = ⊥
 
 -- the bytes are a front of the text that is owed
 abbrev pub IsFront : Outcome (List ℕ) → List ℕ → Type 0
@@ -44,9 +42,7 @@ Answers outcome (NoKey epoch) bytes = (outcome ≡ Keyless epoch) × (bytes ≡ 
 Answers outcome ReadFault bytes = bytes ≡ []
 Answers outcome WriteFault bytes = IsFront outcome bytes
 Answers outcome Memory bytes = (bytes ≡ []) ⊎ IsFront outcome bytes
-Answers outcome Words bytes = ⊥
-Answers outcome (Foreign node shard area at) bytes = ⊥
-Answers outcome (OtherShape node shard stored asked) bytes = ⊥
+Answers outcome _ bytes = ⊥
 
 -- the same, where the outcome is known and the sink tells what it was given
 abbrev pub AnswersOutcome : Option (Outcome (List ℕ)) → Option (List ℕ) → Option (List ℕ) → Status → Type 0
@@ -61,7 +57,7 @@ AnswersCommand command left before after status = AnswersOutcome (owed command l
 abbrev pub ExplainsInput : Command → Option (List ℕ) → Status → Type 0
 ExplainsInput command left status = IfSome (owed command left) (λ outcome. Explains outcome status)
 
--- what a command ends with: never what is said of words or of a journal
+-- what a command ends with: never what is said of words, of settings, of a journal or its disk, or of a running node
 abbrev pub EndsTool : Status → Type 0
 EndsTool Done = ⊤
 EndsTool (Line line) = ⊤
@@ -69,21 +65,12 @@ EndsTool (NoKey epoch) = ⊤
 EndsTool ReadFault = ⊤
 EndsTool WriteFault = ⊤
 EndsTool Memory = ⊤
-EndsTool Words = ⊥
-EndsTool (Foreign node shard area at) = ⊥
-EndsTool (OtherShape node shard stored asked) = ⊥
+EndsTool _ = ⊥
 
 -- a fact of the epoch that a status says has no key
 abbrev pub IfKeyless : Status → (ℕ → Type 0) → Type 0
 IfKeyless (NoKey epoch) fact = fact epoch
-IfKeyless Done fact = ⊤
-IfKeyless (Line line) fact = ⊤
-IfKeyless ReadFault fact = ⊤
-IfKeyless WriteFault fact = ⊤
-IfKeyless Memory fact = ⊤
-IfKeyless Words fact = ⊤
-IfKeyless (Foreign node shard area at) fact = ⊤
-IfKeyless (OtherShape node shard stored asked) fact = ⊤
+IfKeyless _ fact = ⊤
 
 -- an epoch is the one that a command is to give the key of, and its words make no pair; only `keys` gives one
 abbrev pub HasNoKey : Command → ℕ → Type 0
@@ -93,17 +80,13 @@ HasNoKey Make named = ⊥
 HasNoKey Answer named = ⊥
 HasNoKey Open named = ⊥
 
--- after Line, NoKey and ReadFault the sink is as it was, and so it is after a status of a journal
+-- the sink is as it was, but after Done, Words, WriteFault and Memory
 abbrev pub IsUnwritten : {O : Type 0} → Status → O → O → Type 0
-IsUnwritten (Line line) old new = new ≡ old
-IsUnwritten (NoKey epoch) old new = new ≡ old
-IsUnwritten ReadFault old new = new ≡ old
-IsUnwritten (Foreign node shard area at) old new = new ≡ old
-IsUnwritten (OtherShape node shard stored asked) old new = new ≡ old
 IsUnwritten Done old new = ⊤
 IsUnwritten Words old new = ⊤
 IsUnwritten WriteFault old new = ⊤
 IsUnwritten Memory old new = ⊤
+IsUnwritten _ old new = new ≡ old
 
 -- `keys` leaves its source as it was
 abbrev pub IsReadBy : {I : Type 0} → Command → I → I → Type 0

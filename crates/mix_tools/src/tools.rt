@@ -120,7 +120,8 @@ fn write_key<S: Suite, O: Sink>(alloc: Global, sink: &mut O, seed: &[u8; 32], ep
     ensures text { AnswersOutcome
         (Some (key_owed epoch (epoch_public_key S.meaning.kem seed.now epoch)))
         (O.given sink.old) (O.given sink.new) result }
-    ensures cause { Explains (key_owed epoch (epoch_public_key S.meaning.kem seed.now epoch)) result }
+    ensures cause { Explains
+        (key_owed epoch (epoch_public_key S.meaning.kem seed.now epoch)) result }
     ensures no_key { IfKeyless result (λ named.
         (named ≡ epoch) × (epoch_public_key S.meaning.kem seed.now epoch ≡ None)) }
     ensures unwritten { IsUnwritten result sink.old sink.new }

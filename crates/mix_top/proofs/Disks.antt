@@ -529,6 +529,10 @@ owed_follows tells suite ending (statuses.OtherShape node shard stored asked) []
 owed_follows tells suite ending (statuses.NoKey epoch) (act ∷ others) state end ends = inr (act, statuses.NoKey epoch, ends)
 owed_follows tells suite ending (statuses.NoKey epoch) [] state end ends = absurd ends
 owed_follows tells suite ending statuses.Words rest state end owed = absurd owed
+owed_follows tells suite ending (statuses.Key key) rest state end owed = absurd owed
+owed_follows tells suite ending statuses.NoThread rest state end owed = absurd owed
+owed_follows tells suite ending statuses.NoLine rest state end owed = absurd owed
+owed_follows tells suite ending (statuses.Disk node shard) rest state end owed = absurd owed
 
 -- what is known of all disks is known of the first of them
 pub known_first : (tells : Type 0) (count : ℕ) (racks : List RackState) → AreKnown tells racks → AreKnown tells (take count racks)

@@ -15,7 +15,7 @@ use Rattle.lab_text.specs.Script.{Ending, AtEnd, Outside, Events}
 use Rattle.lab_text.specs.declared.lines.LineReader.{LineReader}
 use Rattle.lab_text.specs.declared.node_lines.NodeLine.{NodeLine}
 use Rattle.lab_text.specs.declared.statuses.Status.{Status}
-use Rattle.lab_text.specs.declared.statuses.Status.TheVariants.{Done, Words, Line, ReadFault, WriteFault, Foreign, OtherShape, Memory, NoKey}
+use Rattle.lab_text.specs.declared.statuses.Status.TheVariants.{Done, Words, Line, Key, ReadFault, WriteFault, Foreign, OtherShape, Memory, NoThread, NoKey, NoLine, Disk}
 use Rattle.mix_shard.specs.Laws.{AllCover}
 use Rattle.mix_shard.specs.Shards.{ShardState}
 use Rattle.node_core.specs.Nodes.{AreShardsOf, IsNewNode, NodeState}
@@ -144,6 +144,10 @@ ends_before program ReadFault kind ended = tt
 ends_before program Memory kind ended = tt
 ends_before program Done kind ended = absurd kind
 ends_before program Words kind ended = absurd kind
+ends_before program (Key key) kind ended = absurd kind
+ends_before program NoThread kind ended = absurd kind
+ends_before program NoLine kind ended = absurd kind
+ends_before program (Disk node shard) kind ended = absurd kind
 ends_before program WriteFault kind ended = absurd kind
 ends_before program (Foreign node shard area at) kind ended = absurd kind
 ends_before program (OtherShape node shard stored asked) kind ended = absurd kind
@@ -154,6 +158,10 @@ abbrev ending_before : Status → Ending
 ending_before (Line number) = Outside number
 ending_before Done = AtEnd
 ending_before Words = AtEnd
+ending_before (Key key) = AtEnd
+ending_before NoThread = AtEnd
+ending_before NoLine = AtEnd
+ending_before (Disk node shard) = AtEnd
 ending_before ReadFault = AtEnd
 ending_before WriteFault = AtEnd
 ending_before (Foreign node shard area at) = AtEnd
@@ -167,6 +175,10 @@ ends_unset ReadFault kind = tt
 ends_unset Memory kind = tt
 ends_unset Done kind = absurd kind
 ends_unset Words kind = absurd kind
+ends_unset (Key key) kind = absurd kind
+ends_unset NoThread kind = absurd kind
+ends_unset NoLine kind = absurd kind
+ends_unset (Disk node shard) kind = absurd kind
 ends_unset WriteFault kind = absurd kind
 ends_unset (Foreign node shard area at) kind = absurd kind
 ends_unset (OtherShape node shard stored asked) kind = absurd kind

@@ -12,7 +12,7 @@ use Rattle.mix_shard.specs.declared.faults.RotateFault.{RotateFault}
 use Rattle.mix_shard.specs.declared.faults.RotateFault.TheVariants as rotation
 use Rattle.lab_text.specs.Statuses.{put_status}
 use Rattle.lab_text.specs.declared.statuses.Status.{Status}
-use Rattle.lab_text.specs.declared.statuses.Status.TheVariants.{Done, Words, Line, ReadFault, WriteFault, Foreign, OtherShape, Memory, NoKey}
+use Rattle.lab_text.specs.declared.statuses.Status.TheVariants.{Done, Words, Line, Key, ReadFault, WriteFault, Foreign, OtherShape, Memory, NoThread, NoKey, NoLine, Disk}
 use Rattle.node_core.specs.Nodes.{NodeState, shape_at}
 use Rattle.node_core.specs.declared.answers.Claimed.{Claimed}
 use Rattle.node_core.specs.declared.answers.Claimed.TheVariants as claimed
@@ -111,6 +111,10 @@ module _ (tells : Type 0) (suite : SuiteMeaning) where
   stops_at (NoKey epoch) act others old new is ends = ends
   stops_at Done act others old new is ends = absurd is
   stops_at Words act others old new is ends = absurd is
+  stops_at (Key key) act others old new is ends = absurd is
+  stops_at NoThread act others old new is ends = absurd is
+  stops_at NoLine act others old new is ends = absurd is
+  stops_at (Disk node shard) act others old new is ends = absurd is
   stops_at (Line number) act others old new is ends = absurd is
   stops_at ReadFault act others old new is ends = absurd is
   stops_at WriteFault act others old new is ends = absurd is
@@ -131,6 +135,10 @@ module _ (tells : Type 0) (suite : SuiteMeaning) where
   stops_more (NoKey epoch) rest others state end stops = ends_more (NoKey epoch) rest others state end stops
   stops_more Done rest others state end stops = absurd stops
   stops_more Words rest others state end stops = absurd stops
+  stops_more (Key key) rest others state end stops = absurd stops
+  stops_more NoThread rest others state end stops = absurd stops
+  stops_more NoLine rest others state end stops = absurd stops
+  stops_more (Disk node shard) rest others state end stops = absurd stops
   stops_more (Line number) rest others state end stops = absurd stops
   stops_more ReadFault rest others state end stops = absurd stops
 

@@ -8,7 +8,7 @@ use Rattle.replay_disk.specs.Disk.{RackState}
 use Rattle.lab_text.specs.Given.{Gave}
 use Rattle.lab_text.specs.declared.node_lines.NodeLine.{NodeLine}
 use Rattle.lab_text.specs.declared.statuses.Status.{Status}
-use Rattle.lab_text.specs.declared.statuses.Status.TheVariants.{Done, Words, Line, ReadFault, WriteFault, Foreign, OtherShape, Memory, NoKey}
+use Rattle.lab_text.specs.declared.statuses.Status.TheVariants.{Done, Words, Line, Key, ReadFault, WriteFault, Foreign, OtherShape, Memory, NoThread, NoKey, NoLine, Disk}
 use Rattle.node_core.specs.Nodes.{NodeState}
 use Rattle.node_core.specs.declared.setup.NodeSetup.{NodeSetup}
 use Rattle.mix_tools.specs.Suites.{meaning_for}
@@ -49,6 +49,10 @@ storm_follows tells suite ending (OtherShape node shard stored asked) rest state
 storm_follows tells suite ending (NoKey epoch) rest state end (inl keyless) = inl keyless.2
 storm_follows tells suite ending (NoKey epoch) rest state end (inr next) = next_follows tells suite (NoKey epoch) rest state end next
 storm_follows tells suite ending Words rest state end owed = absurd owed
+storm_follows tells suite ending (Key key) rest state end owed = absurd owed
+storm_follows tells suite ending NoThread rest state end owed = absurd owed
+storm_follows tells suite ending NoLine rest state end owed = absurd owed
+storm_follows tells suite ending (Disk node shard) rest state end owed = absurd owed
 storm_follows tells suite ending (Line number) rest state end owed = absurd owed
 storm_follows tells suite ending ReadFault rest state end owed = absurd owed
 
@@ -88,6 +92,10 @@ given_nothing count status said given kind =
     by Done kind bytes none = absurd kind
     by WriteFault kind bytes none = absurd kind
     by Words kind bytes none = absurd kind
+    by (Key key) kind bytes none = absurd kind
+    by NoThread kind bytes none = absurd kind
+    by NoLine kind bytes none = absurd kind
+    by (Disk node shard) kind bytes none = absurd kind
     by (Line number) kind bytes none = absurd kind
     by ReadFault kind bytes none = absurd kind
 

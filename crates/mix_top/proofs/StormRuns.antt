@@ -10,7 +10,7 @@ use Rattle.epoch_keys.specs.declared.faults.KeyFault.TheVariants as faults
 use Rattle.lab_text.specs.declared.events.Event.{Event}
 use Rattle.lab_text.specs.declared.events.Event.TheVariants.{Send}
 use Rattle.lab_text.specs.declared.statuses.Status.{Status}
-use Rattle.lab_text.specs.declared.statuses.Status.TheVariants.{Done, Words, Line, ReadFault, WriteFault, Foreign, OtherShape, Memory, NoKey}
+use Rattle.lab_text.specs.declared.statuses.Status.TheVariants.{Done, Words, Line, Key, ReadFault, WriteFault, Foreign, OtherShape, Memory, NoThread, NoKey, NoLine, Disk}
 use Rattle.node_core.specs.Nodes.{NodeState}
 use Rattle.node_core.specs.declared.setup.NodeSetup.{NodeSetup}
 use Rattle.mix_top.specs.declared.serving.Round.TheVariants as rounds
@@ -46,6 +46,10 @@ owed_at_break tells suite ending (OtherShape node shard stored asked) rest other
 owed_at_break tells suite ending (NoKey epoch) rest others state end never stops = inr (ends_more tells suite (NoKey epoch) rest others state end stops)
 owed_at_break tells suite ending Done rest others state end never stops = absurd stops
 owed_at_break tells suite ending Words rest others state end never stops = absurd stops
+owed_at_break tells suite ending (Key key) rest others state end never stops = absurd stops
+owed_at_break tells suite ending NoThread rest others state end never stops = absurd stops
+owed_at_break tells suite ending NoLine rest others state end never stops = absurd stops
+owed_at_break tells suite ending (Disk node shard) rest others state end never stops = absurd stops
 owed_at_break tells suite ending (Line number) rest others state end never stops = absurd stops
 owed_at_break tells suite ending ReadFault rest others state end never stops = absurd stops
 
@@ -58,6 +62,10 @@ stop_kind tells suite (OtherShape node shard stored asked) rest state end never 
 stop_kind tells suite (NoKey epoch) rest state end never stops = tt
 stop_kind tells suite Done rest state end never stops = absurd stops
 stop_kind tells suite Words rest state end never stops = absurd stops
+stop_kind tells suite (Key key) rest state end never stops = absurd stops
+stop_kind tells suite NoThread rest state end never stops = absurd stops
+stop_kind tells suite NoLine rest state end never stops = absurd stops
+stop_kind tells suite (Disk node shard) rest state end never stops = absurd stops
 stop_kind tells suite (Line number) rest state end never stops = absurd stops
 stop_kind tells suite ReadFault rest state end never stops = absurd stops
 

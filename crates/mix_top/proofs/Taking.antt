@@ -2,7 +2,7 @@
 -- that.
 use Rattle.std.proofs.Common.{List, [], ◌++◌}
 use Rattle.lab_text.specs.declared.statuses.Status.{Status}
-use Rattle.lab_text.specs.declared.statuses.Status.TheVariants.{Done, Words, Line, ReadFault, WriteFault, Foreign, OtherShape, Memory, NoKey}
+use Rattle.lab_text.specs.declared.statuses.Status.TheVariants.{Done, Words, Line, Key, ReadFault, WriteFault, Foreign, OtherShape, Memory, NoThread, NoKey, NoLine, Disk}
 use Rattle.mix_top.specs.Progress.{TakenOf}
 use Rattle.mix_top.specs.Receiving.{TakesInTurn}
 use Rattle.mix_top.specs.Report as report
@@ -13,6 +13,10 @@ module _ {R : Type 0} {took took_front : R → R → List report.Line → Type 0
   taken_whole Memory old new said whole = in_turn.whole_front old new said whole
   taken_whole Done old new said whole = whole
   taken_whole Words old new said whole = whole
+  taken_whole (Key key) old new said whole = whole
+  taken_whole NoThread old new said whole = whole
+  taken_whole NoLine old new said whole = whole
+  taken_whole (Disk node shard) old new said whole = whole
   taken_whole (Line number) old new said whole = whole
   taken_whole ReadFault old new said whole = whole
   taken_whole (Foreign node shard area at) old new said whole = whole
@@ -25,6 +29,10 @@ module _ {R : Type 0} {took took_front : R → R → List report.Line → Type 0
   taken_behind Memory old between new said others first second = in_turn.front_behind old between new said others first second
   taken_behind Done old between new said others first second = in_turn.behind old between new said others first second
   taken_behind Words old between new said others first second = in_turn.behind old between new said others first second
+  taken_behind (Key key) old between new said others first second = in_turn.behind old between new said others first second
+  taken_behind NoThread old between new said others first second = in_turn.behind old between new said others first second
+  taken_behind NoLine old between new said others first second = in_turn.behind old between new said others first second
+  taken_behind (Disk node shard) old between new said others first second = in_turn.behind old between new said others first second
   taken_behind (Line number) old between new said others first second = in_turn.behind old between new said others first second
   taken_behind ReadFault old between new said others first second = in_turn.behind old between new said others first second
   taken_behind (Foreign node shard area at) old between new said others first second = in_turn.behind old between new said others first second

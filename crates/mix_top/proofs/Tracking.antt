@@ -10,7 +10,7 @@ use Rattle.lab_text.specs.Script.{Ending, AtEnd, Outside, Events, ends, in_front
 use Rattle.lab_text.specs.declared.events.Event.{Event}
 use Rattle.lab_text.specs.declared.lines.LineReader.{LineReader}
 use Rattle.lab_text.specs.declared.statuses.Status.{Status}
-use Rattle.lab_text.specs.declared.statuses.Status.TheVariants.{Done, Words, Line, ReadFault, WriteFault, Foreign, OtherShape, Memory, NoKey}
+use Rattle.lab_text.specs.declared.statuses.Status.TheVariants.{Done, Words, Line, Key, ReadFault, WriteFault, Foreign, OtherShape, Memory, NoThread, NoKey, NoLine, Disk}
 use Rattle.node_core.specs.Nodes.{NodeState}
 use Rattle.node_core.specs.declared.setup.NodeSetup.{NodeSetup}
 use Rattle.mix_top.specs.Acts.{Act, Opens, acts_of, acts_of_all, first_acts, of_each}
@@ -71,6 +71,10 @@ owed_at_break tells suite ending (OtherShape node shard stored asked) rest other
 owed_at_break tells suite ending (NoKey epoch) rest others state end stops = ends_more tells suite (NoKey epoch) rest others state end stops
 owed_at_break tells suite ending Done rest others state end stops = absurd stops
 owed_at_break tells suite ending Words rest others state end stops = absurd stops
+owed_at_break tells suite ending (Key key) rest others state end stops = absurd stops
+owed_at_break tells suite ending NoThread rest others state end stops = absurd stops
+owed_at_break tells suite ending NoLine rest others state end stops = absurd stops
+owed_at_break tells suite ending (Disk node shard) rest others state end stops = absurd stops
 owed_at_break tells suite ending (Line number) rest others state end stops = absurd stops
 owed_at_break tells suite ending ReadFault rest others state end stops = absurd stops
 
@@ -88,6 +92,10 @@ owed_at_stop tells suite shards (Foreign node shard area at) rest state kind end
 owed_at_stop tells suite shards (OtherShape node shard stored asked) rest state kind ended = absurd kind
 owed_at_stop tells suite shards (NoKey epoch) rest state kind ended = absurd kind
 owed_at_stop tells suite shards Words rest state kind ended = absurd kind
+owed_at_stop tells suite shards (Key key) rest state kind ended = absurd kind
+owed_at_stop tells suite shards NoThread rest state kind ended = absurd kind
+owed_at_stop tells suite shards NoLine rest state kind ended = absurd kind
+owed_at_stop tells suite shards (Disk node shard) rest state kind ended = absurd kind
 
 -- a sink takes lines in turn
 on_sink : TakesInTurn GaveText GaveFront
@@ -100,6 +108,10 @@ given_of WriteFault said before after taken = taken
 given_of Memory said before after taken = taken
 given_of Done said before after taken = taken
 given_of Words said before after taken = taken
+given_of (Key key) said before after taken = taken
+given_of NoThread said before after taken = taken
+given_of NoLine said before after taken = taken
+given_of (Disk node shard) said before after taken = taken
 given_of (Line number) said before after taken = taken
 given_of ReadFault said before after taken = taken
 given_of (Foreign node shard area at) said before after taken = taken
@@ -111,6 +123,10 @@ abbrev ending_for : Status → Ending
 ending_for (Line number) = Outside number
 ending_for Done = AtEnd
 ending_for Words = AtEnd
+ending_for (Key key) = AtEnd
+ending_for NoThread = AtEnd
+ending_for NoLine = AtEnd
+ending_for (Disk node shard) = AtEnd
 ending_for ReadFault = AtEnd
 ending_for WriteFault = AtEnd
 ending_for (Foreign node shard area at) = AtEnd
@@ -128,6 +144,10 @@ ends_so (Foreign node shard area at) kind = absurd kind
 ends_so (OtherShape node shard stored asked) kind = absurd kind
 ends_so (NoKey epoch) kind = absurd kind
 ends_so Words kind = absurd kind
+ends_so (Key key) kind = absurd kind
+ends_so NoThread kind = absurd kind
+ends_so NoLine kind = absurd kind
+ends_so (Disk node shard) kind = absurd kind
 
 -- ---- progress
 

@@ -3,7 +3,7 @@ use Rattle.std.specs.Prelude.{◌≡◌, ◌⊎◌, List, [], ◌∷◌, ◌++�
 use Rattle.mix_base.specs.Suites.{SuiteMeaning}
 use Rattle.lab_text.specs.Script.{Ending, AtEnd, Outside}
 use Rattle.lab_text.specs.declared.statuses.Status.{Status}
-use Rattle.lab_text.specs.declared.statuses.Status.TheVariants.{Done, Words, Line, ReadFault, WriteFault, Foreign, OtherShape, Memory, NoKey}
+use Rattle.lab_text.specs.declared.statuses.Status.TheVariants.{Done, Line, ReadFault, WriteFault, Foreign, OtherShape, Memory, NoKey}
 use Rattle.node_core.specs.Nodes.{NodeState}
 use Rattle.mix_top.specs.Acts.{Act}
 use Rattle.mix_top.specs.Report as report
@@ -34,4 +34,4 @@ Owes tells suite ending Memory rest state end = (end ≡ state) ⊎ EndsNext tel
 Owes tells suite ending (Foreign node shard area at) rest state end = EndsNext tells suite (Foreign node shard area at) rest state end
 Owes tells suite ending (OtherShape node shard stored asked) rest state end = EndsNext tells suite (OtherShape node shard stored asked) rest state end
 Owes tells suite ending (NoKey epoch) rest state end = EndsNext tells suite (NoKey epoch) rest state end
-Owes tells suite ending Words rest state end = ⊥
+Owes tells suite ending _ rest state end = ⊥

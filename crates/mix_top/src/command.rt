@@ -43,7 +43,8 @@ pub fn mix_command<I: Source, O: Sink, C: CrashRack, K: Rack>(
     // `drive`: the headline, of the script that the source tells, the report that the sink tells, and the disks.
     ensures headline { OnDrive (map string_bytes words.now)
         (AnswersScript C.tells (I.left source.old) result
-        (O.given sink.old) (O.given sink.new) (map C.state bench.old.lab.items) (map C.state bench.new.lab.items)) }
+        (O.given sink.old) (O.given sink.new)
+        (map C.state bench.old.lab.items) (map C.state bench.new.lab.items)) }
     ensures end { OnDrive (map string_bytes words.now)
         (result ≡ Status.Done → ReachesEnd (I.left source.old) (I.left source.new)) }
 
@@ -80,8 +81,10 @@ pub fn mix_command<I: Source, O: Sink, C: CrashRack, K: Rack>(
         IsReadBy command source.old source.new) }
 
     // A fault comes only where the source or the sink has failed in this call; their counts never fall.
-    ensures read_fault { result ≡ Status.ReadFault → Rose (I.faults source.old) (I.faults source.new) }
-    ensures write_fault { result ≡ Status.WriteFault → Rose (O.faults sink.old) (O.faults sink.new) }
+    ensures read_fault { result ≡ Status.ReadFault →
+        Rose (I.faults source.old) (I.faults source.new) }
+    ensures write_fault { result ≡ Status.WriteFault →
+        Rose (O.faults sink.old) (O.faults sink.new) }
     ensures source_faults { I.faults source.old ≤ I.faults source.new }
     ensures sink_faults { O.faults sink.old ≤ O.faults sink.new }
 {

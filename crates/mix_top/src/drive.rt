@@ -32,12 +32,15 @@ pub fn drive<C: CrashRack, I: Source, O: Sink>(
 ) -> Status
     requires { 16 ≤ length lab.old.items }
     ensures report { AnswersScript C.tells (I.left source.old) result
-        (O.given sink.old) (O.given sink.new) (map C.state lab.old.items) (map C.state lab.new.items) }
+        (O.given sink.old) (O.given sink.new)
+        (map C.state lab.old.items) (map C.state lab.new.items) }
     ensures lab { length lab.new.items ≡ length lab.old.items }
     ensures end { result ≡ Status.Done → ReachesEnd (I.left source.old) (I.left source.new) }
     ensures not_words { result ≡ Status.Words → ⊥ }
-    ensures read_fault { result ≡ Status.ReadFault → Rose (I.faults source.old) (I.faults source.new) }
-    ensures write_fault { result ≡ Status.WriteFault → Rose (O.faults sink.old) (O.faults sink.new) }
+    ensures read_fault { result ≡ Status.ReadFault →
+        Rose (I.faults source.old) (I.faults source.new) }
+    ensures write_fault { result ≡ Status.WriteFault →
+        Rose (O.faults sink.old) (O.faults sink.new) }
     ensures source_faults { I.faults source.old ≤ I.faults source.new }
     ensures sink_faults { O.faults sink.old ≤ O.faults sink.new }
 {

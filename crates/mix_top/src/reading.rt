@@ -28,7 +28,8 @@ pub fn next_event<I: Source>(
     reader: &mut LineReader<I>,
     shards: u8,
 ) -> Result<Option<Event>, Status>
-    ensures event { IfOk result (λ next. IfSome next (λ event. IsNext (lines_given reader.new, event)
+    ensures event { IfOk result
+        (λ next. IfSome next (λ event. IsNext (lines_given reader.new, event)
         (events_to_come shards reader.old) (events_to_come shards reader.new))) }
     ensures in_range { IfOk result (λ next. IfSome next (IsEventInRange shards)) }
     ensures counted { IfOk result (λ next.

@@ -42,9 +42,12 @@ pub enum ReportLine {
 
 /// Writes a line.
 pub fn put_line<O: Sink>(alloc: Global, sink: &mut O, line: &ReportLine) -> Result<(), PutFault>
-    ensures whole { OnOk result (GaveText (O.given sink.old) (O.given sink.new) (Says line.now ∷ [])) }
-    ensures front { OnErr result (GaveFront (O.given sink.old) (O.given sink.new) (Says line.now ∷ [])) }
-    ensures fault { IsErrOf result PutFault.WriteFault → Rose (O.faults sink.old) (O.faults sink.new) }
+    ensures whole { OnOk result
+        (GaveText (O.given sink.old) (O.given sink.new) (Says line.now ∷ [])) }
+    ensures front { OnErr result
+        (GaveFront (O.given sink.old) (O.given sink.new) (Says line.now ∷ [])) }
+    ensures fault { IsErrOf result PutFault.WriteFault →
+        Rose (O.faults sink.old) (O.faults sink.new) }
     ensures count { O.faults sink.old ≤ O.faults sink.new }
 {
     let text = spell(alloc, line)?;

@@ -41,7 +41,8 @@ fn inverse(alloc: Global, modulus: Modulus, poly: &PolyQ) -> Result<PolyQ, Refus
     ensures value { Gives result (inverse_of (prime_of modulus) poly.now) }
     // The inverse of the definition is any polynomial in range whose product is 1.
     ensures exactly { (u : List ℤ)
-        → (inverse_of (prime_of modulus) poly.now ≡ Some u) ↔ IsInverse (prime_of modulus) poly.now u }
+        → (inverse_of (prime_of modulus) poly.now ≡ Some u)
+        ↔ IsInverse (prime_of modulus) poly.now u }
     ensures inverse { IfOk result (IsInverse (prime_of modulus) poly.now) }
     ensures divisor { OnRefused result ((v : List ℤ) × IsDivisor (prime_of modulus) poly.now v) }
 {

@@ -28,7 +28,8 @@ impl Model for Geometry {
 }
 
 impl PartialEq for Geometry {
-    ghost eq = { eq_of_both (on (λ g. g.ct) ◌==◌) (eq_of_both (on (λ g. g.hops) ◌==◌) (on (λ g. g.body) ◌==◌)) };
+    ghost eq = { eq_of_both (on (λ g. g.ct) ◌==◌)
+        (eq_of_both (on (λ g. g.hops) ◌==◌) (on (λ g. g.body) ◌==◌)) };
 
     ghost laws = { Prim.search (comparing, rules) };
 

@@ -47,7 +47,8 @@ impl Hmac {
 
     /// Adds the bytes at the end of the message.
     pub fn add(&mut self, bytes: &[u8])
-        ensures { (key message : List ℕ) → Holds self.old key message → Holds self.new key (message ++ bytes.now) }
+        ensures { (key message : List ℕ) → Holds self.old key message →
+            Holds self.new key (message ++ bytes.now) }
     {
         self.inner.update(bytes);
     }

@@ -52,7 +52,8 @@ impl ChaWords {
     /// The words of the key stream of this key.
     #[tactic(auto, unfolding(crate::specs::Primitives::chacha_word))]
     pub fn new(seed: &[u8; 32]) -> ChaWords
-        ensures { (place : ℕ) → ⟦<ChaWords as Words>⟧.to_come result place ≡ chacha_word seed.now place }
+        ensures { (place : ℕ) →
+            ⟦<ChaWords as Words>⟧.to_come result place ≡ chacha_word seed.now place }
     {
         ChaWords {
             generator: ChaCha20Rng::from_seed(*seed),
@@ -61,7 +62,9 @@ impl ChaWords {
 }
 
 impl Words for ChaWords {
-    ghost to_come = { λ words place. word_at 10 words.generator.key words.generator.stream ((words.generator.word_pos + place) % 2 ^ 68) };
+    ghost to_come = { λ words place.
+        word_at 10 words.generator.key words.generator.stream
+        ((words.generator.word_pos + place) % 2 ^ 68) };
 
     fn next(&mut self) -> u32 {
         self.generator.next_word()

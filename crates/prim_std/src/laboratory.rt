@@ -88,7 +88,9 @@ impl Kem for LabKem {
     fn decap(_alloc: Global, sk: &[u8], ct: &[u8], secret: &mut [u8; 32]) -> Result<bool, Memory>
         requires secret_length { length sk.now ≡ 32 }
         requires ciphertext_length { length ct.now ≡ 48 }
-        ensures answer { IfOk result (λ found. lab_scheme.decapsulate sk.now ct.now ≡ (if found then Some secret.new else None)) }
+        ensures answer { IfOk result
+            (λ found. lab_scheme.decapsulate sk.now ct.now
+            ≡ (if found then Some secret.new else None)) }
         ensures never_refused { IsOk result }
     {
         let (bytes, check) = ct.split_at(32);

@@ -68,50 +68,5 @@ weaker P Q old new more moments = record {
 pub same_moment : (P : Areas → Type 0) (first mid last : RackState) → AtEachMoment P first mid → last.areas ≡ mid.areas → last.past ≡ mid.past → AtEachMoment P first last
 same_moment P first mid last moments areas past = record { passed = moments.passed; grew = past ∙ moments.grew; each = moments.each; now = subst P (sym areas) moments.now }
 
--- nothing was done
-pub owes_none : (failed : Type 0) (state : RackState) → ¬ failed → Owes 0 failed state state
-owes_none failed state fine = record { rose = λ it. absurd (fine it); no_fault = λ _. refl; no_fewer = omega arith; calls = omega arith; arms = refl; crashes = refl }
-
--- room was made
-pub owes_room : (failed : Type 0) (old new : RackState) → ¬ failed → new ≡ record old { room = new.room } → Owes 0 failed old new
-owes_room failed old new fine same =
-    let calls : new.calls ≡ old.calls = ap (λ (s : RackState). s.calls) same in
-    record {
-      rose = λ it. absurd (fine it);
-      no_fault = λ _. ap (λ (s : RackState). s.faults) same;
-      no_fewer = omega arith;
-      calls = omega arith;
-      arms = ap (λ (s : RackState). s.arms) same;
-      crashes = ap (λ (s : RackState). s.crashes) same;
-    }
-
--- with more calls allowed
-pub owes_more : (most more : ℕ) (failed : Type 0) (old new : RackState) → most ≤ more → Owes most failed old new → Owes more failed old new
-owes_more most more failed old new le owes = record { rose = owes.rose; no_fault = owes.no_fault; no_fewer = owes.no_fewer; calls = omega (arith, owes.calls); arms = owes.arms; crashes = owes.crashes }
-
--- a failure told by another answer
-pub owes_as : (most : ℕ) (failed other : Type 0) (old new : RackState) → (other → failed) → (failed → other) → Owes most failed old new → Owes most other old new
-owes_as most failed other old new back forth owes = record {
-  rose = λ it. owes.rose (back it);
-  no_fault = λ fine. owes.no_fault (λ it. fine (forth it));
-  no_fewer = owes.no_fewer;
-  calls = owes.calls;
-  arms = owes.arms;
-  crashes = owes.crashes;
-}
-
--- one step after another that didn't fail
-pub owes_then : (first next : ℕ) (failed_first failed : Type 0) (old mid new : RackState) → ¬ failed_first → Owes first failed_first old mid → Owes next failed mid new → Owes (first + next) failed old new
-owes_then first next failed_first failed old mid new fine before after =
-    let kept = before.no_fault fine in
-    record {
-      rose = λ it. subst (λ (n : ℕ). Rose n new.faults) kept (after.rose it);
-      no_fault = λ none. after.no_fault none ∙ kept;
-      no_fewer = omega (arith, before.no_fewer, after.no_fewer);
-      calls = omega (arith, before.calls, after.calls);
-      arms = after.arms ∙ before.arms;
-      crashes = after.crashes ∙ before.crashes;
-    }
-
 pub only_read_then : (a b c : RackState) → OnlyRead a b → OnlyRead b c → OnlyRead a c
 only_read_then a b c first then = then ∙ ap (λ (s : RackState). record s { faults = c.faults; calls = c.calls; left = c.left }) first

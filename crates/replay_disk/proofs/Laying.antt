@@ -12,12 +12,6 @@ drop_filled old end fill = elim (cases_lt (length old) end) [
   | inr long ↦ let none : end - length old ≡ 0 = omega arith in rw (none, append-nil old)
 ]
 
--- at a place within the list nothing is filled
-pub laid_within : (fill place : ℕ) (bytes old : List ℕ) → place ≤ length old → laid fill place bytes old ≡ with_bytes place bytes old
-laid_within fill place bytes old within =
-    ap (λ (xs : List ℕ). xs ++ bytes ++ drop (place + length bytes) (old ++ replicate (place + length bytes - length old) fill)) (take-append-le place old (replicate (place + length bytes - length old) fill) within)
-    ∙ ap (λ (xs : List ℕ). take place old ++ bytes ++ xs) (drop_filled old (place + length bytes) fill)
-
 -- other bytes, as many, in the place of some in the middle
 overlaid : (front kept old new back : List ℕ) (place : ℕ) → place ≡ length front + length kept → length new ≡ length old
     → with_bytes place new (front ++ (kept ++ old) ++ back) ≡ front ++ (kept ++ new) ++ back

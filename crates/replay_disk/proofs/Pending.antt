@@ -19,11 +19,6 @@ pub EndBy-weaken : (area limit more : ℕ) (writes : List Write) → limit ≤ m
 EndBy-weaken area limit more [] le ends = tt
 EndBy-weaken area limit more (write ∷ writes) le ends = ((λ of. let h = ends.0 of in omega arith), EndBy-weaken area limit more writes le ends.1)
 
--- one write taken off the front of those still to be laid
-pub picked_more : (area pick i : ℕ) (writes : List Write) (image : List ℕ) → i < length writes
-    → picked area pick (drop i writes) image ≡ picked area pick (write_at i writes ∷ drop (i + 1) writes) image
-picked_more area pick i writes image within = ap (λ (ws : List Write). picked area pick ws image) (drop_more writes i (record { area = 0; place = 0; bytes = [] }) within)
-
 -- a write of the area adds its range
 pub ranges_of-push : (area place : ℕ) (bytes : List ℕ) (writes : List Write)
     → ranges_of area (writes ++ (record { area = area; place = place; bytes = bytes }) ∷ []) ≡ ranges_of area writes ++ (record { place = place; size = length bytes }) ∷ []

@@ -25,13 +25,25 @@ impl Model for Failures {
 
     ghost Value = { Counting };
 
-    ghost view = { λ f. record { failing = record { listed = f.listed.items; calls = f.calls }; left = f.left; calls = length f.made.items; faults = f.faults } };
+    ghost view = { λ f.
+        record {
+          failing = record { listed = f.listed.items; calls = f.calls };
+          left = f.left;
+          calls = length f.made.items;
+          faults = f.faults;
+        } };
 }
 
 impl Failures {
     /// No call fails. Takes no memory.
     pub fn none(alloc: Global) -> Failures
-        ensures { result ≡ record { failing = record { listed = []; calls = 0 }; left = None; calls = 0; faults = 0 } }
+        ensures { result
+            ≡ record {
+              failing = record { listed = []; calls = 0 };
+              left = None;
+              calls = 0;
+              faults = 0;
+            } }
     {
         Failures {
             listed: Vec::new(alloc),
@@ -44,7 +56,8 @@ impl Failures {
 
     /// The calls of these numbers are to fail, counted from now from 1.
     pub fn list(&mut self, listed: Vec<u64>)
-        ensures { self.new ≡ record self.old { failing = record { listed = listed.items; calls = 0 } } }
+        ensures { self.new
+            ≡ record self.old { failing = record { listed = listed.items; calls = 0 } } }
     {
         self.listed = listed;
         self.calls = 0;

@@ -24,7 +24,13 @@ impl Model for MemArea {
 
     ghost Value = { Buffer };
 
-    ghost view = { λ a. record { contents = a.contents.items; synced = take a.same a.contents.items ++ a.tail.items; greatest = a.greatest; limit = min (vec_capacity a.contents) (vec_capacity a.tail) } };
+    ghost view = { λ a.
+        record {
+          contents = a.contents.items;
+          synced = take a.same a.contents.items ++ a.tail.items;
+          greatest = a.greatest;
+          limit = min (vec_capacity a.contents) (vec_capacity a.tail);
+        } };
 
     ghost invariant = { λ a. a.same ≤ vec_len a.contents };
 }
@@ -176,7 +182,8 @@ fn keep_front(contents: &[u8], same: usize, tail: &mut Vec<u8>, place: usize) ->
     requires room { same + vec_len tail.old ≤ vec_capacity tail.old }
     ensures place { result ≤ place }
     ensures fewer { result ≤ same }
-    ensures kept { take result contents.now ++ tail.new.items ≡ take same contents.now ++ tail.old.items }
+    ensures kept { take result contents.now ++ tail.new.items
+        ≡ take same contents.now ++ tail.old.items }
     ensures capacity { vec_capacity tail.old ≤ vec_capacity tail.new }
 {
     if same <= place {
@@ -226,7 +233,8 @@ fn blot(target: &mut [u8], from: usize, to: usize)
 /// At least this length, by bytes at the end.
 fn lengthen(contents: &mut Vec<u8>, len: usize, fill: u8)
     requires { len ≤ vec_capacity contents.old }
-    ensures items { contents.new.items ≡ contents.old.items ++ replicate (len - vec_len contents.old) fill }
+    ensures items { contents.new.items
+        ≡ contents.old.items ++ replicate (len - vec_len contents.old) fill }
     ensures capacity { vec_capacity contents.old ≤ vec_capacity contents.new }
 {
     if contents.len() < len {

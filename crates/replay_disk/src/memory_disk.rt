@@ -22,9 +22,12 @@ pub struct MemDisk {
 impl MemDisk {
     /// At rest, with these contents. Takes no memory.
     pub fn new(alloc: Global, root: Vec<u8>, one: Vec<u8>, two: Vec<u8>) -> MemDisk
-        ensures root { IsSettled root.items (record { contents = []; synced = []; greatest = 0; limit = 0 }) result.root }
-        ensures one { IsSettled one.items (record { contents = []; synced = []; greatest = 0; limit = 0 }) result.one }
-        ensures two { IsSettled two.items (record { contents = []; synced = []; greatest = 0; limit = 0 }) result.two }
+        ensures root { IsSettled root.items
+            (record { contents = []; synced = []; greatest = 0; limit = 0 }) result.root }
+        ensures one { IsSettled one.items
+            (record { contents = []; synced = []; greatest = 0; limit = 0 }) result.one }
+        ensures two { IsSettled two.items
+            (record { contents = []; synced = []; greatest = 0; limit = 0 }) result.two }
         ensures log { result.log.list ≡ [] }
     {
         MemDisk {
@@ -64,10 +67,12 @@ impl MemDisk {
         requires range { place + length bytes.now < 2 ^ 64 }
         requires place { place ≤ length (buffer_at area self.old).contents }
         requires fits { place + length bytes.now ≤ (buffer_at area self.old).limit }
-        requires synced { length (buffer_at area self.old).synced ≤ (buffer_at area self.old).limit }
+        requires synced { length (buffer_at area self.old).synced
+            ≤ (buffer_at area self.old).limit }
         requires room { length bytes.now ≤ self.old.log.spare }
         ensures area { ChangesBuffer area (IsWritten place bytes.now done) self.old self.new }
-        ensures list { self.new.log.list ≡ self.old.log.list ++ (record { area = area; place = place; bytes = bytes.now }) ∷ [] }
+        ensures list { self.new.log.list
+            ≡ self.old.log.list ++ (record { area = area; place = place; bytes = bytes.now }) ∷ [] }
         ensures spare { self.old.log.spare ≤ self.new.log.spare + length bytes.now }
     {
         match area {
@@ -81,7 +86,8 @@ impl MemDisk {
     /// The contents of an area are on the disk, and none of its writes is pending.
     pub fn sync(&mut self, area: u8)
         requires { area < 3 }
-        ensures area { ChangesBuffer area (IsSettled (buffer_at area self.old).contents) self.old self.new }
+        ensures area { ChangesBuffer area
+            (IsSettled (buffer_at area self.old).contents) self.old self.new }
         ensures list { self.new.log.list ≡ without_area area self.old.log.list }
         ensures spare { self.old.log.spare ≤ self.new.log.spare }
     {
@@ -119,9 +125,12 @@ impl MemDisk {
         requires root_ends { EndBy 0 self.old.root.limit self.old.log.list }
         requires one_ends { EndBy 1 self.old.one.limit self.old.log.list }
         requires two_ends { EndBy 2 self.old.two.limit self.old.log.list }
-        ensures root { IsSettled (picked 0 pick self.old.log.list self.old.root.synced) self.old.root self.new.root }
-        ensures one { IsSettled (picked 1 pick self.old.log.list self.old.one.synced) self.old.one self.new.one }
-        ensures two { IsSettled (picked 2 pick self.old.log.list self.old.two.synced) self.old.two self.new.two }
+        ensures root { IsSettled
+            (picked 0 pick self.old.log.list self.old.root.synced) self.old.root self.new.root }
+        ensures one { IsSettled
+            (picked 1 pick self.old.log.list self.old.one.synced) self.old.one self.new.one }
+        ensures two { IsSettled
+            (picked 2 pick self.old.log.list self.old.two.synced) self.old.two self.new.two }
         ensures list { self.new.log.list ≡ [] }
         ensures spare { self.old.log.spare ≤ self.new.log.spare }
     {
@@ -176,7 +185,8 @@ fn patch_one(area: &mut MemArea, number: u8, log: &WriteLog, i: usize, digit: u6
     requires index { i < length log.now.list }
     requires ends { EndBy number area.old.limit log.now.list }
     ensures contents { let write = write_at i log.now.list in
-        area.new.contents ≡ (if write.area == number then laid_by digit write area.old.contents else area.old.contents) }
+        area.new.contents ≡ (if write.area == number
+        then laid_by digit write area.old.contents else area.old.contents) }
     ensures limit { area.old.limit ≤ area.new.limit }
 {
     if log.area(i) == number {
@@ -188,7 +198,10 @@ fn patch_one(area: &mut MemArea, number: u8, log: &WriteLog, i: usize, digit: u6
 fn patch_by(area: &mut MemArea, digit: u64, place: usize, bytes: &[u8])
     requires digit { digit < 3 }
     requires fits { place + length bytes.now ≤ area.old.limit }
-    ensures contents { (number : ℕ) → area.new.contents ≡ laid_by digit (record { area = number; place = place; bytes = bytes.now }) area.old.contents }
+    ensures contents { (number : ℕ) →
+        area.new.contents
+        ≡ laid_by digit
+        (record { area = number; place = place; bytes = bytes.now }) area.old.contents }
     ensures limit { area.old.limit ≤ area.new.limit }
 {
     match digit {

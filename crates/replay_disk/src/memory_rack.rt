@@ -79,7 +79,8 @@ impl MemRack {
 
     /// The calls of these numbers are to fail, counted from now from 1, and no others that were listed before.
     pub fn fail_at(&mut self, calls: Vec<u64>)
-        ensures { self.new ≡ record self.old { failing = record { listed = calls.items; calls = 0 } } }
+        ensures { self.new
+            ≡ record self.old { failing = record { listed = calls.items; calls = 0 } } }
     {
         self.failures.list(calls);
     }
@@ -119,7 +120,8 @@ impl Rack for MemRack {
 
     fn read(&mut self, area: u8, at: u64, buf: &mut [u8]) -> Result<usize, Failed>
         ensures within { IfOk result (λ n. n ≤ length buf.old) }
-        ensures bytes { IfOk result (ReadsFrom at (contents_of area self.old.rack) buf.old buf.new) }
+        ensures bytes { IfOk result
+            (ReadsFrom at (contents_of area self.old.rack) buf.old buf.new) }
         ensures same { OnlyRead self.old.rack self.new.rack }
         ensures images { ContentsAreImages self.new.rack.areas }
         ensures armed { self.old.rack.left ≡ Some 0 → IsErr result }
@@ -143,8 +145,14 @@ impl Rack for MemRack {
         requires range { at + length bytes.now ≤ 2 ^ 40 }
         requires place { at ≤ length (contents_of area self.old.rack) }
         requires room { length bytes.now ≤ self.old.rack.room }
-        ensures written { OnOk result (contents_of area self.new.rack ≡ with_bytes at bytes.now (contents_of area self.old.rack)) }
-        ensures tried { ChangesOnly area (IsTried (record { place = at; size = length bytes.now })) self.old.rack.areas self.new.rack.areas }
+        ensures written { OnOk result
+            (contents_of area self.new.rack
+            ≡ with_bytes at bytes.now (contents_of area self.old.rack)) }
+        ensures tried { ChangesOnly area
+            (IsTried (record {
+              place = at;
+              size = length bytes.now;
+            })) self.old.rack.areas self.new.rack.areas }
         ensures moment { PassesOne self.old.rack self.new.rack }
         ensures room { self.new.rack.room + length bytes.now ≡ self.old.rack.room }
         ensures images { ContentsAreImages self.new.rack.areas }
@@ -153,8 +161,10 @@ impl Rack for MemRack {
         ensures owes { Owes 1 (IsErr result) self.old.rack self.new.rack }
 
         // A write that failed leaves the contents, and is pending as one that was done.
-        ensures left { OnErr result (contents_of area self.new.rack ≡ contents_of area self.old.rack) }
-        ensures pending { self.new.pending ≡ self.old.pending ++ (record { area = area; place = at; bytes = bytes.now }) ∷ [] }
+        ensures left { OnErr result
+            (contents_of area self.new.rack ≡ contents_of area self.old.rack) }
+        ensures pending { self.new.pending
+            ≡ self.old.pending ++ (record { area = area; place = at; bytes = bytes.now }) ∷ [] }
 
         // Just the calls that it was told to fail at fail, and each is one fault.
         ensures fails { IsErr result ↔ FailsNext self.old.rack.left self.old.failing }
@@ -171,7 +181,8 @@ impl Rack for MemRack {
 
     fn sync(&mut self, area: u8) -> Result<(), Failed>
         requires { area < 3 }
-        ensures synced { OnOk result (ChangesOnly area IsSynced self.old.rack.areas self.new.rack.areas) }
+        ensures synced { OnOk result
+            (ChangesOnly area IsSynced self.old.rack.areas self.new.rack.areas) }
         ensures failed { OnErr result (self.new.rack.areas ≡ self.old.rack.areas) }
         ensures moment { PassesOne self.old.rack self.new.rack }
         ensures room { self.new.rack.room ≡ self.old.rack.room }
@@ -181,7 +192,8 @@ impl Rack for MemRack {
         ensures owes { Owes 1 (IsErr result) self.old.rack self.new.rack }
 
         // The area's writes are no longer pending, unless the call failed.
-        ensures pending { self.new.pending ≡ (if is_ok result then without_area area self.old.pending else self.old.pending) }
+        ensures pending { self.new.pending
+            ≡ (if is_ok result then without_area area self.old.pending else self.old.pending) }
 
         // Just the calls that it was told to fail at fail, and each is one fault.
         ensures fails { IsErr result ↔ FailsNext self.old.rack.left self.old.failing }
@@ -237,7 +249,9 @@ impl CrashRack for MemRack {
 
         // The pick says which image is left.
         ensures picked { (area : ℕ) → area < 3 →
-            area_at area self.new.rack.areas ≡ settled (picked area pick self.old.pending (area_at area self.old.rack.areas).synced) }
+            area_at area self.new.rack.areas
+            ≡ settled (picked area pick self.old.pending
+            (area_at area self.old.rack.areas).synced) }
         ensures pending { self.new.pending ≡ [] }
         ensures failing { self.new.failing ≡ self.old.failing }
     {

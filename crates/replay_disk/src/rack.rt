@@ -33,7 +33,8 @@ pub trait Rack: Drop {
         requires area { area < 3 }
         requires range { at + length buf.old ≤ 2 ^ 40 }
         ensures within { IfOk result (λ n. n ≤ length buf.old) }
-        ensures bytes { tells → IfOk result (ReadsFrom at (contents_of area (state self.old)) buf.old buf.new) }
+        ensures bytes { tells →
+            IfOk result (ReadsFrom at (contents_of area (state self.old)) buf.old buf.new) }
         ensures same { OnlyRead (state self.old) (state self.new) }
         ensures images { tells → ContentsAreImages (state self.new).areas }
         ensures armed { (state self.old).left ≡ Some 0 → IsErr result }
@@ -49,8 +50,12 @@ pub trait Rack: Drop {
         requires range { at + length bytes.now ≤ 2 ^ 40 }
         requires place { tells → at ≤ length (contents_of area (state self.old)) }
         requires room { tells → length bytes.now ≤ (state self.old).room }
-        ensures written { tells → OnOk result (contents_of area (state self.new) ≡ with_bytes at bytes.now (contents_of area (state self.old))) }
-        ensures tried { tells → ChangesOnly area (IsTried (record { place = at; size = length bytes.now })) (state self.old).areas (state self.new).areas }
+        ensures written { tells →
+            OnOk result (contents_of area (state self.new)
+            ≡ with_bytes at bytes.now (contents_of area (state self.old))) }
+        ensures tried { tells →
+            ChangesOnly area (IsTried (record { place = at; size = length bytes.now }))
+            (state self.old).areas (state self.new).areas }
         ensures moment { tells → PassesOne (state self.old) (state self.new) }
         ensures room { tells → (state self.new).room + length bytes.now ≡ (state self.old).room }
         ensures images { tells → ContentsAreImages (state self.new).areas }
@@ -61,7 +66,8 @@ pub trait Rack: Drop {
     /// Brings the area's contents to the disk: afterwards a crash leaves these. One that failed changes nothing.
     fn sync(&mut self, area: u8) -> Result<(), Failed>
         requires { area < 3 }
-        ensures synced { tells → OnOk result (ChangesOnly area IsSynced (state self.old).areas (state self.new).areas) }
+        ensures synced { tells →
+            OnOk result (ChangesOnly area IsSynced (state self.old).areas (state self.new).areas) }
         ensures failed { tells → OnErr result ((state self.new).areas ≡ (state self.old).areas) }
         ensures moment { tells → PassesOne (state self.old) (state self.new) }
         ensures room { tells → (state self.new).room ≡ (state self.old).room }
@@ -91,11 +97,13 @@ pub trait CrashRack: Rack {
     /// Crashes: each area has one of its images as contents, and nothing is pending. The pick says which. The rack is no
     /// longer armed. Any room may be left.
     fn crash(&mut self, pick: u64)
-        ensures image { Self.tells → IsCrashed (Self.state self.old).areas (Self.state self.new).areas }
+        ensures image { Self.tells →
+            IsCrashed (Self.state self.old).areas (Self.state self.new).areas }
         ensures moment { Self.tells → PassesOne (Self.state self.old) (Self.state self.new) }
         ensures faults { (Self.state self.new).faults ≡ (Self.state self.old).faults }
         ensures calls { (Self.state self.new).calls ≡ (Self.state self.old).calls }
         ensures left { (Self.state self.new).left ≡ None }
         ensures arms { (Self.state self.new).arms ≡ (Self.state self.old).arms }
-        ensures crashes { (Self.state self.new).crashes ≡ (Self.state self.old).crashes ++ pick ∷ [] };
+        ensures crashes { (Self.state self.new).crashes
+            ≡ (Self.state self.old).crashes ++ pick ∷ [] };
 }

@@ -30,7 +30,12 @@ impl Model for WriteLog {
 
     ghost Value = { Writes };
 
-    ghost view = { λ w. record { list = writes_of w.bytes.items w.marks.items; spare = min (vec_capacity w.marks - vec_len w.marks) (vec_capacity w.bytes - vec_len w.bytes) } };
+    ghost view = { λ w.
+        record {
+          list = writes_of w.bytes.items w.marks.items;
+          spare = min (vec_capacity w.marks - vec_len w.marks)
+              (vec_capacity w.bytes - vec_len w.bytes);
+        } };
 
     ghost invariant = { λ w. AreMarked w.bytes.items w.marks.items };
 }
@@ -92,7 +97,8 @@ impl WriteLog {
     pub fn push(&mut self, area: u8, place: usize, bytes: &[u8])
         requires some { 0 < length bytes.now }
         requires room { length bytes.now ≤ self.old.spare }
-        ensures list { self.new.list ≡ self.old.list ++ (record { area = area; place = place; bytes = bytes.now }) ∷ [] }
+        ensures list { self.new.list
+            ≡ self.old.list ++ (record { area = area; place = place; bytes = bytes.now }) ∷ [] }
         ensures spare { self.old.spare ≤ self.new.spare + length bytes.now }
     {
         let mark = Mark {

@@ -12,7 +12,15 @@ use std::test::Fail;
 struct Plain;
 
 impl Kem for Plain {
-    ghost scheme = { record { public_key = 32; secret_key = 32; ciphertext = 1; coins = 0; pair = λ _. None; encapsulate = λ _ _. None; decapsulate = λ sk ct. if slice_index ct 0 == 9 then Some sk else None } };
+    ghost scheme = { record {
+      public_key = 32;
+      secret_key = 32;
+      ciphertext = 1;
+      coins = 0;
+      pair = λ _. None;
+      encapsulate = λ _ _. None;
+      decapsulate = λ sk ct. if slice_index ct 0 == 9 then Some sk else None;
+    } };
 
     ghost PK = { 32 };
 
@@ -128,7 +136,14 @@ impl Suite for Plain {
 
     type W = Plain;
 
-    ghost meaning = { record { kem = ⟦<Plain as Kem>⟧.scheme; mac = ⟦<Plain as Mac>⟧.code; hop_keys = ⟦<Plain as Kdf>⟧.keys; stream = ⟦<Plain as Stream>⟧.byte; encrypt = ⟦<Plain as Wide>⟧.encrypted; decrypt = ⟦<Plain as Wide>⟧.decrypted } };
+    ghost meaning = { record {
+      kem = ⟦<Plain as Kem>⟧.scheme;
+      mac = ⟦<Plain as Mac>⟧.code;
+      hop_keys = ⟦<Plain as Kdf>⟧.keys;
+      stream = ⟦<Plain as Stream>⟧.byte;
+      encrypt = ⟦<Plain as Wide>⟧.encrypted;
+      decrypt = ⟦<Plain as Wide>⟧.decrypted;
+    } };
 
     ghost made_of_parts = { refl };
 }

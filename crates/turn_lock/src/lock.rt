@@ -39,7 +39,15 @@ impl<T: Storied> Model for Pass<T> {
 
     ghost use Rattle.turn_lock.specs.Seats.{IsPass, is_at_turn, made_by};
 
-    ghost view = { λ p. record { lock = p.seat.table_id; number = p.number; holds = is_at_turn p.seat.me.0.role; origin = p.seat.me.0.origin; seen = p.seat.me.0.seen; made = made_by p.seat.me.0.callers } };
+    ghost view = { λ p.
+        record {
+          lock = p.seat.table_id;
+          number = p.number;
+          holds = is_at_turn p.seat.me.0.role;
+          origin = p.seat.me.0.origin;
+          seen = p.seat.me.0.seen;
+          made = made_by p.seat.me.0.callers;
+        } };
 
     ghost invariant = { λ p. IsPass p.number p.entries p.seat.me };
 }
@@ -60,9 +68,16 @@ impl<T: Storied> Model for TurnLock<T> {
 
     ghost coded = { lock_code T.Entry.code };
 
-    ghost view = { λ l. record { id = l.table.shared.table_id; callers = l.table.shared.key.callers; origin = T.origin l.table.shared.key.value.value; story = T.story l.table.shared.key.value.value } };
+    ghost view = { λ l.
+        record {
+          id = l.table.shared.table_id;
+          callers = l.table.shared.key.callers;
+          origin = T.origin l.table.shared.key.value.value;
+          story = T.story l.table.shared.key.value.value;
+        } };
 
-    ghost invariant = { λ l. (l.table.shared.table_id.words ≡ 2) × (l.table.shared.table_id.slots ≡ 1) × (0 < l.table.shared.key.callers) };
+    ghost invariant = { λ l. (l.table.shared.table_id.words ≡ 2) ×
+        (l.table.shared.table_id.slots ≡ 1) × (0 < l.table.shared.key.callers) };
 }
 
 /// A lock, and a pass for each of its callers.
@@ -213,7 +228,8 @@ impl<T: Storied> TurnLock<T> {
     /// A lock over the value, with one pass for each caller, numbered from 0. Where memory is wanting the value comes back.
     pub fn new(alloc: Global, value: T, callers: u32) -> Result<MadeLock<T>, (T, Memory)>
         requires { 0 < callers }
-        ensures lock { IfOk result (λ m. IsLockOver m.lock callers (T.origin value) (T.story value)) }
+        ensures lock { IfOk result
+            (λ m. IsLockOver m.lock callers (T.origin value) (T.story value)) }
         ensures passes { IfOk result (λ m. m.passes.items ≡ new_passes m.lock callers) }
         ensures err { IfErr result (λ e. e.0 ≡ value) }
     {
@@ -249,7 +265,8 @@ impl<T: Storied> TurnLock<T> {
 
         // The story begins with all that the pass had seen, and what follows was done by others.
         ensures begins { Begins pass.old.seen (T.story result) }
-        ensures others { entries_by T.caller pass.old.number (after pass.old.seen (T.story result)) ≡ [] }
+        ensures others { entries_by T.caller pass.old.number (after pass.old.seen (T.story result))
+            ≡ [] }
         ensures pass { pass.new ≡ holding pass.old (T.story result) }
     {
         let steps = &self.table.shared;
@@ -267,7 +284,8 @@ impl<T: Storied> TurnLock<T> {
 
         // The story only grew, by entries of this caller.
         requires begins { Begins pass.old.seen (T.story value) }
-        requires own_entries { All (λ e. T.caller e ≡ pass.old.number) (after pass.old.seen (T.story value)) }
+        requires own_entries { All (λ e. T.caller e ≡ pass.old.number)
+            (after pass.old.seen (T.story value)) }
         ensures pass { pass.new ≡ resting pass.old (T.story value) }
     {
         let steps = &self.table.shared;
@@ -292,7 +310,9 @@ impl<T: Storied> TurnLock<T> {
         ensures seen { All (λ p. Begins p.seen (T.story result)) passes.items }
 
         // After the story at `new` the entries of each caller are those that its pass made, each once and in its order, and there are no others.
-        ensures made { All (λ p. entries_by T.caller p.number (after self.story (T.story result)) ≡ p.made) passes.items }
+        ensures made { All
+            (λ p. entries_by T.caller p.number (after self.story (T.story result))
+            ≡ p.made) passes.items }
         ensures others { All (λ e. T.caller e < self.callers) (after self.story (T.story result)) }
     {
         first_to_end(&mut passes);

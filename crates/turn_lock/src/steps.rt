@@ -34,7 +34,9 @@ impl<T: Storied> TableRule<Option<T>, View<T::Entry>, Start<T>> for Told {
     ghost use Rattle.turn_lock.specs.TurnRule.{OneStory};
     ghost use Rattle.turn_lock.specs.Seats.{first_seat};
 
-    ghost holds = { λ key. OneStory T.origin T.story T.caller (T.origin key.value.value) (T.story key.value.value) key.callers };
+    ghost holds = { λ key.
+        OneStory T.origin T.story T.caller (T.origin key.value.value)
+        (T.story key.value.value) key.callers };
 
     ghost first = { λ key. first_seat 1 (T.origin key.value.value) (T.story key.value.value) };
 }
@@ -107,7 +109,9 @@ pub(crate) fn begin<T: Storied>(steps: &Steps<T>, seat: &mut Place<T>) -> bool
     requires table { IsSeatOf steps.now.table_id seat.old }
     requires rests { MayTurn seat.old.me }
     ensures seat { IsSameSeat seat.old seat.new }
-    ensures begins { MatchBool result ((x : T) × Took T.origin T.story T.caller seat.old.me x seat.new.me) (seat.new.me ≡ seat.old.me) }
+    ensures begins { MatchBool result
+        ((x : T) × Took T.origin T.story T.caller seat.old.me x seat.new.me)
+        (seat.new.me ≡ seat.old.me) }
 {
     steps.compare_exchange::<Takes>(seat, BUSY, 0, 1) == 0
 }
@@ -117,7 +121,9 @@ fn begin_soon<T: Storied>(steps: &Steps<T>, seat: &mut Place<T>) -> bool
     requires table { IsSeatOf steps.now.table_id seat.old }
     requires rests { MayTurn seat.old.me }
     ensures seat { IsSameSeat seat.old seat.new }
-    ensures begins { MatchBool result ((x : T) × Took T.origin T.story T.caller seat.old.me x seat.new.me) (seat.new.me ≡ seat.old.me) }
+    ensures begins { MatchBool result
+        ((x : T) × Took T.origin T.story T.caller seat.old.me x seat.new.me)
+        (seat.new.me ≡ seat.old.me) }
 {
     for _ in 0..LOOKS {
         if steps.peek(BUSY) == 0 && begin(steps, seat) {

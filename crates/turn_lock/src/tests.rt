@@ -143,7 +143,8 @@ fn four<R: Threads + Wait + Sync>(
 // A lock over a book with no entries, and its passes.
 fn opened(alloc: Global, callers: u32) -> Result<MadeLock<Book>, Fail>
     requires { 0 < callers }
-    ensures { IfOk result (λ m. (m.lock.callers ≡ callers) × (m.passes.items ≡ new_passes m.lock callers)) }
+    ensures { IfOk result
+        (λ m. (m.lock.callers ≡ callers) × (m.passes.items ≡ new_passes m.lock callers)) }
 {
     let book = Book {
         callers: Vec::new(alloc),
@@ -161,7 +162,8 @@ fn last(
     number: u32,
 ) -> Result<Pass<Book>, Fail>
     requires { passes.old.items ≡ new_passes lock.now (number + 1) }
-    ensures { IfOk result (λ p. IsIdle lock.now number p × (passes.new.items ≡ new_passes lock.now number)) }
+    ensures { IfOk result
+        (λ p. IsIdle lock.now number p × (passes.new.items ≡ new_passes lock.now number)) }
 {
     match passes.pop() {
         Some(pass) => Ok(pass),

@@ -28,7 +28,8 @@ impl<R: CrashRack, S: Suite> Node<R, S> {
     pub fn rotate(&mut self, alloc: Global, shard: u8, moment: u64) -> Result<(), RotateFault>
         requires shard { shard < self.old.setup.shards }
         requires moment { moment < 2 ^ 60 }
-        ensures retires { AtShard (Retires R.tells S.meaning moment result) shard self.old self.new }
+        ensures retires { AtShard
+            (Retires R.tells S.meaning moment result) shard self.old self.new }
         ensures kept { AreShardsOf R.tells S.meaning self.new.setup self.new.shards }
         ensures setup { self.new.setup ≡ self.old.setup }
         ensures next { self.new.next ≡ self.old.next }

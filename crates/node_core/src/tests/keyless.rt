@@ -16,7 +16,15 @@ use std::test::Fail;
 struct Keyless;
 
 impl Kem for Keyless {
-    ghost scheme = { record { public_key = 1; secret_key = 1; ciphertext = 1; coins = 1; pair = λ words. None; encapsulate = λ key coins. None; decapsulate = λ key ciphertext. None } };
+    ghost scheme = { record {
+      public_key = 1;
+      secret_key = 1;
+      ciphertext = 1;
+      coins = 1;
+      pair = λ words. None;
+      encapsulate = λ key coins. None;
+      decapsulate = λ key ciphertext. None;
+    } };
 
     ghost PK = { 1 };
 

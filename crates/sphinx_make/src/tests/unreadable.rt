@@ -11,7 +11,15 @@ use std::alloc::Global;
 pub struct UnreadableKeys;
 
 impl Kem for UnreadableKeys {
-    ghost scheme = { record { public_key = 32; secret_key = 32; ciphertext = 48; coins = 0; pair = λ _. None; encapsulate = λ _ _. None; decapsulate = λ _ _. None } };
+    ghost scheme = { record {
+      public_key = 32;
+      secret_key = 32;
+      ciphertext = 48;
+      coins = 0;
+      pair = λ _. None;
+      encapsulate = λ _ _. None;
+      decapsulate = λ _ _. None;
+    } };
 
     ghost PK = { 32 };
 

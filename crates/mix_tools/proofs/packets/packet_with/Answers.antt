@@ -1,4 +1,3 @@
--- The laws of a suite that may cross threads hold wherever a thread runs: here they are taken where the call stands.
 use Rattle.std.proofs.Common.{arith, ◌≡◌, ℕ, ◌*◌, List, length, ap, sym, ◌∙◌}
 use Rattle.mix_base.specs.Suites.{SuiteMeaning}
 use Rattle.mix_tools.proofs.MadePackets.{delays-in_range, length-path_from, packet-never_refused}
@@ -16,17 +15,17 @@ pub coins_in-requires : goal.coins_in-requires
 coins_in-requires g c = omega (arith, ap length c.as_slice-hops.ensures, c.requires.in_range.0.path.most, c.requires.in_range.0.path.count)
 
 pub make_packet-requires-clause-ciphertext : goal.make_packet-requires-clause-ciphertext
-make_packet-requires-clause-ciphertext g c κs within =
-    let suite_laws = g.met.S.Suite g.world.𝓛 g.world.𝓜 g.world.𝓡 ((λ s x. x), (λ x. x), (λ x. x), λ x. x) in
-    let kem_laws = g.met.S.K.Kem g.world.𝓛 g.world.𝓜 g.world.𝓡 ((λ s x. x), (λ x. x), (λ x. x), λ x. x) in
+make_packet-requires-clause-ciphertext g c =
+    let suite_laws = g.met.S.Suite in
+    let kem_laws = g.met.S.K.Kem in
     c.requires.in_range.0.path.ciphertext
     ∙ sym (ap (λ (m : SuiteMeaning). m.kem.ciphertext) c.requires.suite)
     ∙ ap (λ (m : SuiteMeaning). m.kem.ciphertext) suite_laws.made_of_parts ∙ kem_laws.ciphertext_length
 
 pub make_packet-requires-clause-coins : goal.make_packet-requires-clause-coins
-make_packet-requires-clause-coins g c κs within =
-    let suite_laws = g.met.S.Suite g.world.𝓛 g.world.𝓜 g.world.𝓡 ((λ s x. x), (λ x. x), (λ x. x), λ x. x) in
-    let kem_laws = g.met.S.K.Kem g.world.𝓛 g.world.𝓜 g.world.𝓡 ((λ s x. x), (λ x. x), (λ x. x), λ x. x) in
+make_packet-requires-clause-coins g c =
+    let suite_laws = g.met.S.Suite in
+    let kem_laws = g.met.S.K.Kem in
     let request = c.args.request.now in
     let lent : c.as_slice-hops.result.now ≡ request.hops = c.as_slice-hops.ensures in
     let words = delay_words request.head.seed in

@@ -9,7 +9,6 @@ use Rattle.reply_blocks.proofs.Returning.{comes_back}
 use Rattle.reply_blocks.proofs.Undoing.{is_invertible}
 use Rattle.reply_blocks.proofs.blocks.make_block.Goals as goal
 
--- The laws of a suite that may cross threads hold wherever a thread runs: here they are taken where the call stands.
 pub returns-clause-carries : goal.returns-clause-carries
 returns-clause-carries g c secrets payload agree long =
     let suite = g.S.Suite.meaning in
@@ -20,8 +19,8 @@ returns-clause-carries g c secrets payload agree long =
 
 pub returns-clause-comes_back : goal.returns-clause-comes_back
 returns-clause-comes_back g c secrets body agree long =
-    let suite_laws = g.met.S.Suite g.world.𝓛 g.world.𝓜 g.world.𝓡 ((λ s x. x), (λ x. x), (λ x. x), λ x. x) in
-    let wide_laws = g.met.S.W.Wide g.world.𝓛 g.world.𝓜 g.world.𝓡 ((λ s x. x), (λ x. x), (λ x. x), λ x. x) in
+    let suite_laws = g.met.S.Suite in
+    let wide_laws = g.met.S.W.Wide in
     let suite = g.S.Suite.meaning in
     let laws = is_invertible suite _ suite_laws.made_of_parts (record {
       decrypts = wide_laws.decrypts;

@@ -5,11 +5,10 @@ use Rattle.reply_blocks.specs.declared.faults.OpenFault.TheVariants as faults
 use Rattle.reply_blocks.proofs.Undoing.{is_invertible, opened_reply-answer}
 use Rattle.reply_blocks.proofs.opening.open_reply.Goals as goal
 
--- The laws of a suite that may cross threads hold wherever a thread runs: here they are taken where the call stands.
 pub returns-in_default-clause-honest : goal.returns-in_default-clause-honest
 returns-in_default-clause-honest g c body long is_answer =
-    let suite_laws = g.met.S.Suite g.world.𝓛 g.world.𝓜 g.world.𝓡 ((λ s x. x), (λ x. x), (λ x. x), λ x. x) in
-    let wide_laws = g.met.S.W.Wide g.world.𝓛 g.world.𝓜 g.world.𝓡 ((λ s x. x), (λ x. x), (λ x. x), λ x. x) in
+    let suite_laws = g.met.S.Suite in
+    let wide_laws = g.met.S.W.Wide in
     let suite = g.S.Suite.meaning in
     let sizes = c.args.geo.now in
     let keys : Keys = keys_seen c.args.keys.now in
@@ -26,8 +25,8 @@ returns-in_default-clause-honest g c body long is_answer =
 
 pub returns-clause-honest : goal.returns-clause-honest
 returns-clause-honest g c body long is_answer =
-    let suite_laws = g.met.S.Suite g.world.𝓛 g.world.𝓜 g.world.𝓡 ((λ s x. x), (λ x. x), (λ x. x), λ x. x) in
-    let wide_laws = g.met.S.W.Wide g.world.𝓛 g.world.𝓜 g.world.𝓡 ((λ s x. x), (λ x. x), (λ x. x), λ x. x) in
+    let suite_laws = g.met.S.Suite in
+    let wide_laws = g.met.S.W.Wide in
     let suite = g.S.Suite.meaning in
     let sizes = c.args.geo.now in
     let keys : Keys = keys_seen c.args.keys.now in

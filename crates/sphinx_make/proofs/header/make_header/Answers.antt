@@ -7,29 +7,28 @@ use Rattle.sphinx_make.specs.Sealing.{IsOnTime}
 use Rattle.sphinx_make.specs.declared.path.SealedHop.{SealedHop}
 use Rattle.sphinx_make.proofs.header.make_header.Goals as goal
 
--- The laws of a suite that may cross threads hold wherever a thread runs: here they are taken where the call stands.
 pub join_header-requires-clause-delays : goal.join_header-requires-clause-delays
-join_header-requires-clause-delays g c κs within =
-    let suite_laws = g.met.S.Suite g.world.𝓛 g.world.𝓜 g.world.𝓡 ((λ s x. x), (λ x. x), (λ x. x), λ x. x) in
-    let kem_laws = g.met.S.K.Kem g.world.𝓛 g.world.𝓜 g.world.𝓡 ((λ s x. x), (λ x. x), (λ x. x), λ x. x) in
+join_header-requires-clause-delays g c =
+    let suite_laws = g.met.S.Suite in
+    let kem_laws = g.met.S.K.Kem in
     let coins_are : g.S.Suite.meaning.kem.coins ≡ g.S.K.Kem.COINS = ap (λ (m : SuiteMeaning). m.kem.coins) suite_laws.made_of_parts ∙ kem_laws.coins_length in
     let sealed = are_sealed g.S.Suite.meaning c.args.geo.now c.args.path.now c.args.coins.now c.in_ok-hops.hops.items g.S.K.Kem.COINS coins_are (sym c.in_ok-check_path.ensures) c.in_ok-hops.ensures.exact c.requires.coins c.type_inv.coins in
     subst (λ (hops : List SealedHop). All IsOnTime hops) (sym c.deref.ensures.value) sealed.on_time
 
 pub join_header-requires-clause-room : goal.join_header-requires-clause-room
-join_header-requires-clause-room g c κs within =
-    let suite_laws = g.met.S.Suite g.world.𝓛 g.world.𝓜 g.world.𝓡 ((λ s x. x), (λ x. x), (λ x. x), λ x. x) in
-    let kem_laws = g.met.S.K.Kem g.world.𝓛 g.world.𝓜 g.world.𝓡 ((λ s x. x), (λ x. x), (λ x. x), λ x. x) in
+join_header-requires-clause-room g c =
+    let suite_laws = g.met.S.Suite in
+    let kem_laws = g.met.S.K.Kem in
     let coins_are : g.S.Suite.meaning.kem.coins ≡ g.S.K.Kem.COINS = ap (λ (m : SuiteMeaning). m.kem.coins) suite_laws.made_of_parts ∙ kem_laws.coins_length in
     let sealed = are_sealed g.S.Suite.meaning c.args.geo.now c.args.path.now c.args.coins.now c.in_ok-hops.hops.items g.S.K.Kem.COINS coins_are (sym c.in_ok-check_path.ensures) c.in_ok-hops.ensures.exact c.requires.coins c.type_inv.coins in
     subst (λ (hops : List SealedHop). length hops ≤ c.args.geo.now.hops) (sym c.deref.ensures.value) sealed.most
 
 pub returns-clause-carries : goal.returns-clause-carries
 returns-clause-carries g c =
-    let suite_laws = g.met.S.Suite g.world.𝓛 g.world.𝓜 g.world.𝓡 ((λ s x. x), (λ x. x), (λ x. x), λ x. x) in
-    let kem_laws = g.met.S.K.Kem g.world.𝓛 g.world.𝓜 g.world.𝓡 ((λ s x. x), (λ x. x), (λ x. x), λ x. x) in
-    let mac_laws = g.met.S.M.Mac g.world.𝓛 g.world.𝓜 g.world.𝓡 ((λ s x. x), (λ x. x), (λ x. x), λ x. x) in
-    let wide_laws = g.met.S.W.Wide g.world.𝓛 g.world.𝓜 g.world.𝓡 ((λ s x. x), (λ x. x), (λ x. x), λ x. x) in
+    let suite_laws = g.met.S.Suite in
+    let kem_laws = g.met.S.K.Kem in
+    let mac_laws = g.met.S.M.Mac in
+    let wide_laws = g.met.S.W.Wide in
     let coins_are : g.S.Suite.meaning.kem.coins ≡ g.S.K.Kem.COINS = ap (λ (m : SuiteMeaning). m.kem.coins) suite_laws.made_of_parts ∙ kem_laws.coins_length in
     let sealed = are_sealed g.S.Suite.meaning c.args.geo.now c.args.path.now c.args.coins.now c.in_ok-hops.hops.items g.S.K.Kem.COINS coins_are (sym c.in_ok-check_path.ensures) c.in_ok-hops.ensures.exact c.requires.coins c.type_inv.coins in
     let laws = subst (λ (m : SuiteMeaning). KeepsLengths m) (sym suite_laws.made_of_parts) (record { code = mac_laws.code_length; decrypted = wide_laws.decrypted_length }) in
@@ -40,8 +39,8 @@ returns-clause-carries g c =
 
 pub returns-clause-length : goal.returns-clause-length
 returns-clause-length g c =
-    let suite_laws = g.met.S.Suite g.world.𝓛 g.world.𝓜 g.world.𝓡 ((λ s x. x), (λ x. x), (λ x. x), λ x. x) in
-    let kem_laws = g.met.S.K.Kem g.world.𝓛 g.world.𝓜 g.world.𝓡 ((λ s x. x), (λ x. x), (λ x. x), λ x. x) in
+    let suite_laws = g.met.S.Suite in
+    let kem_laws = g.met.S.K.Kem in
     let coins_are : g.S.Suite.meaning.kem.coins ≡ g.S.K.Kem.COINS = ap (λ (m : SuiteMeaning). m.kem.coins) suite_laws.made_of_parts ∙ kem_laws.coins_length in
     let sealed = are_sealed g.S.Suite.meaning c.args.geo.now c.args.path.now c.args.coins.now c.in_ok-hops.hops.items g.S.K.Kem.COINS coins_are (sym c.in_ok-check_path.ensures) c.in_ok-hops.ensures.exact c.requires.coins c.type_inv.coins in
     c.in_ok-header.ensures.length (subst (λ (hops : List SealedHop). 0 < length hops) (sym c.deref.ensures.value) sealed.some)

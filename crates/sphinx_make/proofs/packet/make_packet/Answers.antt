@@ -6,11 +6,10 @@ use Rattle.sphinx_make.proofs.Layers.{Undoes, arrives-made_packet, carries-made_
 use Rattle.sphinx_make.specs.Making.{encrypted_along}
 use Rattle.sphinx_make.proofs.packet.make_packet.Goals as goal
 
--- The laws of a suite that may cross threads hold wherever a thread runs: here they are taken where the call stands.
 pub returns-clause-carries : goal.returns-clause-carries
 returns-clause-carries g c =
-    let suite_laws = g.met.S.Suite g.world.𝓛 g.world.𝓜 g.world.𝓡 ((λ s x. x), (λ x. x), (λ x. x), λ x. x) in
-    let wide_laws = g.met.S.W.Wide g.world.𝓛 g.world.𝓜 g.world.𝓡 ((λ s x. x), (λ x. x), (λ x. x), λ x. x) in
+    let suite_laws = g.met.S.Suite in
+    let wide_laws = g.met.S.W.Wide in
     let suite = g.S.Suite.meaning in
     let laws = subst (λ (m : SuiteMeaning). Undoes m) (sym suite_laws.made_of_parts) (record { decrypts = wide_laws.decrypts; encrypted_length = wide_laws.encrypted_length }) in
     let header = c.in_ok-made.made.header in
@@ -22,8 +21,8 @@ returns-clause-carries g c =
 
 pub returns-clause-arrives : goal.returns-clause-arrives
 returns-clause-arrives g c =
-    let suite_laws = g.met.S.Suite g.world.𝓛 g.world.𝓜 g.world.𝓡 ((λ s x. x), (λ x. x), (λ x. x), λ x. x) in
-    let wide_laws = g.met.S.W.Wide g.world.𝓛 g.world.𝓜 g.world.𝓡 ((λ s x. x), (λ x. x), (λ x. x), λ x. x) in
+    let suite_laws = g.met.S.Suite in
+    let wide_laws = g.met.S.W.Wide in
     let suite = g.S.Suite.meaning in
     let laws = subst (λ (m : SuiteMeaning). Undoes m) (sym suite_laws.made_of_parts) (record { decrypts = wide_laws.decrypts; encrypted_length = wide_laws.encrypted_length }) in
     let header = c.in_ok-made.made.header in

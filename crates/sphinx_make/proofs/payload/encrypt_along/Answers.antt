@@ -4,7 +4,6 @@ use Rattle.sphinx_make.proofs.Layers.{encrypted_along-drop, encrypted_along-nil}
 use Rattle.sphinx_make.specs.Making.{encrypted_along}
 use Rattle.sphinx_make.proofs.payload.encrypt_along.Goals as goal
 
--- The laws of a suite that may cross threads hold wherever a thread runs: here they are taken where the call stands.
 pub layers-init : goal.layers-init
 layers-init g c =
     let wides = c.args.wides.now in
@@ -12,7 +11,7 @@ layers-init g c =
 
 pub layers-preserved : goal.layers-preserved
 layers-preserved g c =
-    let suite_laws = g.met.S.Suite g.world.𝓛 g.world.𝓜 g.world.𝓡 ((λ s x. x), (λ x. x), (λ x. x), λ x. x) in
+    let suite_laws = g.met.S.Suite in
     let suite = g.S.Suite.meaning in
     let wides = c.args.wides.now in
     let payload = c.args.payload.now in

@@ -14,7 +14,7 @@ returns-in_default-clause-value g t c =
     c.new.ensures.items ∙ sym (ap (routing_for g.S.Suite.meaning c.args.geo.now c.args.last.now c.args.filler.now) (nil_from_length c.args.hops.now c.in_default.ensures.cases))
 
 pub end_routing-requires-clause-delay : goal.end_routing-requires-clause-delay
-end_routing-requires-clause-delay g t c κs within = head_of IsOnTime c.args.hops.now c.in-Some.hop.now c.in-Some.rest.now c.in-Some.ensures.cases.0 c.requires.delays
+end_routing-requires-clause-delay g t c = head_of IsOnTime c.args.hops.now c.in-Some.hop.now c.in-Some.rest.now c.in-Some.ensures.cases.0 c.requires.delays
 
 pub returns-in_default-split_first-clause-value : goal.returns-in_default-split_first-clause-value
 unfolding routing_for
@@ -25,7 +25,6 @@ returns-in_default-split_first-clause-value g t c =
     let same : routing_of_last suite c.args.geo.now c.args.last.now c.args.filler.now hop ≡ routing_for suite c.args.geo.now c.args.last.now c.args.filler.now c.args.hops.now = sym (ap (routing_for suite c.args.geo.now c.args.last.now c.args.filler.now) whole) in
     subst (λ (xs : List ℕ). IfOk c.end_routing.result (λ made. made.items ≡ xs)) same c.end_routing.ensures.value
 
--- The parts of a suite may cross threads: the function was called with that, and calls itself with it.
 pub route-requires : goal.route-requires
 route-requires g t c κs within =
     let suite = g.S.Suite.meaning in
@@ -51,11 +50,7 @@ route-requires g t c κs within =
                 within.1.1.1.1.0,
                 (
                   within.1.1.1.1.1,
-                  (
-                      let sends = c.requires-raw.1.1.1.1.1.1.1 in
-                      let syncs = sends.1.1.1.1.1.1 in
-                      (sends.0, (sends.1.0, (sends.1.1.0, (sends.1.1.1.0, (sends.1.1.1.1.0, (sends.1.1.1.1.1.0, (syncs.0, (syncs.1.0, (syncs.1.1.0, (syncs.1.1.1.0, (syncs.1.1.1.1.0, (syncs.1.1.1.1.1.0, (c.requires.ciphertext, (tail_of (HasKeyLengths g.S.K.Kem.CT) hops hop rest cons c.requires.lengths, (tail_of IsOnTime hops hop rest cons c.requires.delays, room)))))))))))))))
-                      ),
+                  (c.requires.ciphertext, (tail_of (HasKeyLengths g.S.K.Kem.CT) hops hop rest cons c.requires.lengths, (tail_of IsOnTime hops hop rest cons c.requires.delays, room))),
                 ),
               ),
             ),
@@ -65,12 +60,12 @@ route-requires g t c κs within =
     )
 
 pub outer_routing-requires-clause-ciphertext : goal.outer_routing-requires-clause-ciphertext
-outer_routing-requires-clause-ciphertext g t c κs within =
+outer_routing-requires-clause-ciphertext g t c =
     let lengths = tail_of (HasKeyLengths g.S.K.Kem.CT) c.args.hops.now c.in-Some.hop.now c.in-Some.rest.now c.in-Some.ensures.cases.0 c.requires.lengths in
     (head_of (HasKeyLengths g.S.K.Kem.CT) c.in-Some.rest.now c.in-Some-split_first.next.now c.in-Some-split_first.field-0-1.now c.in-Some-split_first.ensures.cases.0 lengths).ciphertext ∙ sym c.requires.ciphertext
 
 pub outer_routing-requires-clause-delay : goal.outer_routing-requires-clause-delay
-outer_routing-requires-clause-delay g t c κs within = head_of IsOnTime c.args.hops.now c.in-Some.hop.now c.in-Some.rest.now c.in-Some.ensures.cases.0 c.requires.delays
+outer_routing-requires-clause-delay g t c = head_of IsOnTime c.args.hops.now c.in-Some.hop.now c.in-Some.rest.now c.in-Some.ensures.cases.0 c.requires.delays
 
 pub returns-clause-value : goal.returns-clause-value
 unfolding routing_for

@@ -7,11 +7,10 @@ use Rattle.sphinx_make.specs.Making.{sealed_path}
 use Rattle.sphinx_make.specs.Sealing.{HasKeyLengths}
 use Rattle.sphinx_make.proofs.sealing.seal_path.Goals as goal
 
--- The laws of a suite that may cross threads hold wherever a thread runs: here they are taken where the call stands.
 pub returns-in_err-next-clause-exact : goal.returns-in_err-next-clause-exact
 returns-in_err-next-clause-exact g c =
-    let suite_laws = g.met.S.Suite g.world.𝓛 g.world.𝓜 g.world.𝓡 ((λ s x. x), (λ x. x), (λ x. x), λ x. x) in
-    let kem_laws = g.met.S.K.Kem g.world.𝓛 g.world.𝓜 g.world.𝓡 ((λ s x. x), (λ x. x), (λ x. x), λ x. x) in
+    let suite_laws = g.met.S.Suite in
+    let kem_laws = g.met.S.K.Kem in
     let suite = g.S.Suite.meaning in
     let coins_are : suite.kem.coins ≡ c.COINS.result = ap (λ m. m.kem.coins) suite_laws.made_of_parts ∙ kem_laws.coins_length ∙ sym c.COINS.ensures in
     let p = err_from_is_err_and c.from_residual-in_err-next.result c.from_residual-in_err-next.ensures.1 in
@@ -19,8 +18,8 @@ returns-in_err-next-clause-exact g c =
 
 pub sealing-preserved : goal.sealing-preserved
 sealing-preserved g c =
-    let suite_laws = g.met.S.Suite g.world.𝓛 g.world.𝓜 g.world.𝓡 ((λ s x. x), (λ x. x), (λ x. x), λ x. x) in
-    let kem_laws = g.met.S.K.Kem g.world.𝓛 g.world.𝓜 g.world.𝓡 ((λ s x. x), (λ x. x), (λ x. x), λ x. x) in
+    let suite_laws = g.met.S.Suite in
+    let kem_laws = g.met.S.K.Kem in
     let suite = g.S.Suite.meaning in
     let coins_are : suite.kem.coins ≡ c.COINS.result = ap (λ m. m.kem.coins) suite_laws.made_of_parts ∙ kem_laws.coins_length ∙ sym c.COINS.ensures in
     record {

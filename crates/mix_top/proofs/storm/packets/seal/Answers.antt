@@ -10,8 +10,8 @@ use Rattle.mix_top.proofs.storm.packets.seal.Goals as goal
 
 pub only_memory-requires : goal.only_memory-requires
 only_memory-requires g c =
-    let suite_laws = g.met.S.Suite g.world.𝓛 g.world.𝓜 g.world.𝓡 ((λ s x. x), (λ x. x), (λ x. x), λ x. x) in
-    let kem_laws = g.met.S.K.Kem g.world.𝓛 g.world.𝓜 g.world.𝓡 ((λ s x. x), (λ x. x), (λ x. x), λ x. x) in
+    let suite_laws = g.met.S.Suite in
+    let kem_laws = g.met.S.K.Kem in
     only_memory (cause_of c.in-Err.fault) (made_packet g.S.Suite.meaning c.args.setup.now.geo (path_with c.args.key c.args.delay) recipient_id c.deref.result.now None c.args.coins.now)
     (storm_made g.S.Suite.meaning c.args.setup.now.geo c.args.key recipient_id c.deref.result.now c.args.coins.now c.args.delay c.requires.node.hops c.requires.delay
     (ap length (c.deref.ensures.value ∙ c.in_ok-body.ensures) ∙ body_length c.args.setup.now c.args.number c.requires.node.body)

@@ -11,13 +11,13 @@ use Rattle.node_core.proofs.Places.{with_shard}
 use Rattle.node_core.proofs.node.Node.claim.Goals as goal
 
 pub admit-requires-clause-active : goal.admit-requires-clause-active
-admit-requires-clause-active g c κs within =
+admit-requires-clause-active g c =
     let there = slice_get_read c.self.inside.shards.items c.self.inside.setup.shards c.place_for-shard.result c.index_mut.result.now
     (sym c.self.invariant.0.count) c.place_for-shard.ensures.below c.index_mut.ensures.value in
     ap (λ (done : List Bool). slice_get done 0) (c.self.invariant.0.each c.place_for-shard.result c.index_mut.result.now there).active
 
 pub admit-requires-clause-setup : goal.admit-requires-clause-setup
-admit-requires-clause-setup g c κs within =
+admit-requires-clause-setup g c =
     let there = slice_get_read c.self.inside.shards.items c.self.inside.setup.shards c.place_for-shard.result c.index_mut.result.now
     (sym c.self.invariant.0.count) c.place_for-shard.ensures.below c.index_mut.ensures.value in
     held_setup (packets_setup c.self.inside.setup) c.self.inside.workers c.args.worker c.in-Some.held c.self.invariant.4 (sym c.take_from.ensures.taken ∙ c.in-Some.is)

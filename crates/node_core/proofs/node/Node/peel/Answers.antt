@@ -8,7 +8,7 @@ use Rattle.node_core.proofs.Waiting.{first_timely, one_fewer, peeled_oldest}
 use Rattle.node_core.proofs.node.Node.peel.Goals as goal
 
 pub open_arrival-requires-clause-moment : goal.open_arrival-requires-clause-moment
-open_arrival-requires-clause-moment g c κs within =
+open_arrival-requires-clause-moment g c =
     first_timely c.self.inside.arrivals.items _ c.in-Some.arrival.now c.in-Some.ensures.some c.self.invariant.1
 
 pub invariant_of-self-in-Ok : goal.invariant_of-self-in-Ok

@@ -5,8 +5,8 @@ use Rattle.node_core.proofs.Changing.{is_caller, terms_of_ready}
 use Rattle.node_core.proofs.Places.{with_shard}
 use Rattle.node_core.proofs.node.Node.ready.Goals as goal
 
-pub ready-requires-after_bounds : goal.ready-requires-after_bounds
-ready-requires-after_bounds g c κs within =
+pub ready-requires : goal.ready-requires
+ready-requires g c =
     let there = slice_get_read c.self.inside.shards.items c.self.inside.setup.shards c.args.shard c.index_mut.result.now
     (sym c.self.invariant.0.count) (subst (λ (node : NodeState). c.args.shard < node.setup.shards) (sym c.self.view_is) c.requires) c.index_mut.ensures.value in
     is_caller g.R.Rack.tells g.S.Suite.meaning c.self.inside.setup c.args.shard c.index_mut.result.now (c.self.invariant.0.each c.args.shard c.index_mut.result.now there)

@@ -6,7 +6,7 @@ use Rattle.node_core.proofs.Places.{with_shard}
 use Rattle.node_core.proofs.node.Node.rotate.Goals as goal
 
 pub rotate-requires-clause-caller : goal.rotate-requires-clause-caller
-rotate-requires-clause-caller g c κs within =
+rotate-requires-clause-caller g c =
     let there = slice_get_read c.self.inside.shards.items c.self.inside.setup.shards c.args.shard c.index_mut.result.now
     (sym c.self.invariant.0.count) (subst (λ (node : NodeState). c.args.shard < node.setup.shards) (sym c.self.view_is) c.requires.shard) c.index_mut.ensures.value in
     is_caller g.R.Rack.tells g.S.Suite.meaning c.self.inside.setup c.args.shard c.index_mut.result.now (c.self.invariant.0.each c.args.shard c.index_mut.result.now there)

@@ -19,8 +19,8 @@ index_mut-requires g c =
     let stands = subst (λ (l : List ShardState). StandsFirst c.args.moment l (all_held l) c.in-Some.place c.in-Some.next) c.as_slice.ensures.value c.in-Some.ensures in
     omega (arith, slice_get_within c.self.inside.shards.items c.in-Some.place stands.shard stands.there)
 
-pub take_due-requires-after_bounds : goal.take_due-requires-after_bounds
-take_due-requires-after_bounds g c κs within =
+pub take_due-requires : goal.take_due-requires
+take_due-requires g c =
     let stands = subst (λ (l : List ShardState). StandsFirst c.args.moment l (all_held l) c.in-Some.place c.in-Some.next) c.as_slice.ensures.value c.in-Some.ensures in
     let there = slice_get_read c.self.inside.shards.items _ c.in-Some.place c.index_mut.result.now refl
     (slice_get_within c.self.inside.shards.items c.in-Some.place stands.shard stands.there) c.index_mut.ensures.value in

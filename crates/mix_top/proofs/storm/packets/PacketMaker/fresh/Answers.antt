@@ -6,8 +6,8 @@ use Rattle.mix_top.proofs.storm.packets.PacketMaker.fresh.Goals as goal
 
 pub returns-clause-packet : goal.returns-clause-packet
 returns-clause-packet g c =
-    let suite_laws = g.met.S.Suite g.world.𝓛 g.world.𝓜 g.world.𝓡 ((λ s x. x), (λ x. x), (λ x. x), λ x. x) in
-    let kem_laws = g.met.S.K.Kem g.world.𝓛 g.world.𝓜 g.world.𝓡 ((λ s x. x), (λ x. x), (λ x. x), λ x. x) in
+    let suite_laws = g.met.S.Suite in
+    let kem_laws = g.met.S.K.Kem in
     let words = g.W.Words.to_come c.args.self.now.words in
     let behind = g.W.Words.to_come c.next-delay.new.self in
     let count = ap (λ (m : SuiteMeaning). m.kem.coins) suite_laws.made_of_parts ∙ kem_laws.coins_length ∙ sym c.COINS.ensures in

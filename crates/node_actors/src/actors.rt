@@ -1,0 +1,37 @@
+// What the threads of a node do, each one caller of every shard.
+mod acting;
+mod connecting;
+mod crew;
+mod dealing;
+mod draining;
+mod fates;
+mod feeds;
+mod gates;
+mod keeping;
+mod keys;
+mod listening;
+mod returning;
+mod rotating;
+mod seats;
+mod sights;
+mod takings;
+mod turns;
+mod working;
+mod works;
+
+pub use connecting::Connector;
+pub use crew::{Feeder, LeftBy, NodeActor, Spare};
+pub use dealing::Dealer;
+pub use draining::{nobody_ended, stays_drained};
+pub use fates::{Dealt, Fate};
+pub use feeds::Feed;
+pub use gates::{Gate, OpenGate};
+pub use keeping::Keeper;
+pub use listening::{Ending, Listener, Taken};
+pub use returning::hand_back;
+pub use rotating::Rotator;
+pub use seats::Seat;
+pub use takings::Taking;
+pub use turns::{ShardLock, ShardPass};
+pub use working::Worker;
+pub use works::{Left, Work};

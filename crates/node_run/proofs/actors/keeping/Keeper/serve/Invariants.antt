@@ -1,5 +1,0 @@
-use Rattle.node_run.specs.Seats.{ClaimsNothing}
-use Rattle.node_run.proofs.actors.keeping.Keeper.serve.Given as goal
-
-abbrev pub invariant-loop : goal.invariant-loop
-invariant-loop g l = ClaimsNothing l.initial.self.seat l.self.seat

@@ -1,5 +1,0 @@
-use Rattle.node_run.specs.Working.{KeepsWorking}
-use Rattle.node_run.proofs.actors.working.Worker.serve.Given as goal
-
-abbrev pub invariant-loop : goal.invariant-loop
-invariant-loop g l = KeepsWorking l.initial.self l.self

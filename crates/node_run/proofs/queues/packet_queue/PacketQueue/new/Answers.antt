@@ -1,5 +1,0 @@
-use Rattle.node_run.proofs.Posting.{begins}
-use Rattle.node_run.proofs.queues.packet_queue.PacketQueue.new.Goals as goal
-
-pub ruled-requires-clause-rule : goal.ruled-requires-clause-rule
-ruled-requires-clause-rule c = begins

@@ -1,5 +1,0 @@
-use Rattle.std.proofs.Common.{◌≡◌}
-use Rattle.node_run.proofs.queues.packet_queue.PacketQueue.pop_soon.Given as goal
-
-abbrev pub invariant-loop : goal.invariant-loop
-invariant-loop g l = l.receiver ≡ l.initial.receiver

@@ -1,5 +1,0 @@
-use Rattle.node_run.proofs.Posting.{merges_kept}
-use Rattle.node_run.proofs.queues.packet_queue.PacketQueue.take_in.Goals as goal
-
-pub absorb-requires-clause-rule : goal.absorb-requires-clause-rule
-absorb-requires-clause-rule c = merges_kept _ _ _ _ _ _ _ c.receiver.invariant.home
