@@ -10,8 +10,9 @@ ghost use Rattle.lab_text.specs.Statuses.{code_of, status_text};
 ghost use Rattle.mix_tools.specs.Answers.{AnswersCommand, EndsInput, EndsTool, ExplainsInput};
 ghost use Rattle.mix_tools.specs.Answers.{HasNoKey, IfKeyless, IsReadBy, IsUnwritten};
 ghost use Rattle.mix_tools.specs.Commands.{command_of};
-ghost use Rattle.mix_top.specs.Commands.{OnDrive, OnStorm, OnTool, names_drive};
+ghost use Rattle.mix_top.specs.Commands.{OnDrive, OnLook, OnStorm, OnTool, names_drive};
 ghost use Rattle.mix_top.specs.Headline.{AnswersScript};
+ghost use Rattle.mix_top.specs.Look.{AnswersLook, look_of};
 ghost use Rattle.mix_top.specs.Storm.{storm_of};
 ghost use Rattle.mix_top.specs.StormHeadline.{AnswersStorm};
 ghost use Rattle.mix_cli.specs.Program.{OnWords, ReadsArgs};
@@ -64,7 +65,8 @@ pub fn run<I: Source, O: Sink, E: Sink, C: CrashRack, K: Rack>(
 
     // The rest is what `mix_command` promises at these words.
     ensures forms { OnWords result.words (λ words. (result.status ≡ Status.Words) ↔
-        ((names_drive words ≡ false) × (storm_of words ≡ None) × (command_of words ≡ None))) }
+        ((names_drive words ≡ false) × (storm_of words ≡ None)
+        × (look_of words ≡ None) × (command_of words ≡ None))) }
     ensures untouched { result.status ≡ Status.Words →
         (source.new ≡ source.old) × (sink.new ≡ sink.old) }
     ensures headline { OnWords result.words (λ words. OnDrive words
@@ -76,8 +78,15 @@ pub fn run<I: Source, O: Sink, E: Sink, C: CrashRack, K: Rack>(
         (map C.state bench.old.lab.items) (map C.state bench.new.lab.items))) }
     ensures storm_reads_nothing { OnWords result.words (λ words. OnStorm words (λ named.
         source.new ≡ source.old)) }
-    ensures bench { OnWords result.words (λ words.
-        names_drive words ≡ false → storm_of words ≡ None → bench.new ≡ bench.old) }
+    ensures look { OnWords result.words (λ words. OnLook words (λ shards.
+        AnswersLook K.tells shards result.status (O.given sink.old) (O.given sink.new)
+        (map K.state bench.old.kept.items) (map K.state bench.new.kept.items))) }
+    ensures look_reads_nothing { OnWords result.words (λ words. OnLook words (λ shards.
+        source.new ≡ source.old)) }
+    ensures lab_stays { OnWords result.words (λ words.
+        names_drive words ≡ false → storm_of words ≡ None → bench.new.lab ≡ bench.old.lab) }
+    ensures kept_stays { OnWords result.words (λ words.
+        look_of words ≡ None → bench.new.kept ≡ bench.old.kept) }
     ensures end { OnWords result.words (λ words. OnDrive words
         (result.status ≡ Status.Done → ReachesEnd (I.left source.old) (I.left source.new))) }
     ensures tool_text { OnWords result.words (λ words. OnTool words (λ command.

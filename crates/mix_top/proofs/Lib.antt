@@ -6,6 +6,7 @@ mod Disks
 mod Empty
 mod Giving
 mod HonestLines
+mod Looks
 mod Members
 mod Once
 mod Promise

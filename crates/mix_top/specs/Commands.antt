@@ -3,6 +3,7 @@ use Rattle.std.specs.Prelude.{◌≡◌, ℕ, List, [], ◌∷◌, Bool, true, f
 use Rattle.std.specs.Str.{bytes_eq}
 use Rattle.mix_tools.specs.Commands.{command_of}
 use Rattle.mix_tools.specs.declared.commands.Command.{Command}
+use Rattle.mix_top.specs.Look.{look_of}
 use Rattle.mix_top.specs.Storm.{storm_of}
 use Rattle.mix_top.specs.declared.storm.words.Storm.{Storm}
 
@@ -19,6 +20,10 @@ OnDrive words fact = names_drive words ≡ true → fact
 -- a fact on a call of `storm`, by what its words name
 abbrev pub OnStorm : List (List ℕ) → (Storm → Type 0) → Type 0
 OnStorm words fact = IfSome (storm_of words) fact
+
+-- a fact on a call of `look`, by the number of shards that its words name
+abbrev pub OnLook : List (List ℕ) → (ℕ → Type 0) → Type 0
+OnLook words fact = IfSome (look_of words) fact
 
 -- a fact on a call of a tool, by its command
 abbrev pub OnTool : List (List ℕ) → (Command → Type 0) → Type 0

@@ -13,10 +13,13 @@ pub mod Headline
 pub mod Storm
 pub mod Summary
 pub mod StormHeadline
--- Words of private functions and proofs alone: what it is to take the lines of a report; and how far a script has been
--- answered.
+-- The command `look`: what it reads of the kept disks, and its promise.
+pub mod Look
+-- Words of private functions and proofs alone: what it is to take the lines of a report; how far a script has been
+-- answered; and how far the kept disks have been read.
 pub mod Receiving
 pub mod ReceivingLaws
 pub mod Progress
 pub mod Tallies
 pub mod Storming
+pub mod Looking

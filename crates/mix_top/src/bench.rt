@@ -6,7 +6,7 @@ use mix_base::Memory;
 use replay_disk::{MemRack, Rack};
 use std::alloc::Global;
 
-/// The laboratory disks, which `drive` works on, and those that are kept, which it leaves alone.
+/// The laboratory disks, which `drive` and `storm` work on, and those that are kept, which they leave alone and `look` reads.
 #[derive(Drop)]
 pub struct Bench<C, K> {
     pub lab: Vec<C>,
@@ -26,10 +26,20 @@ impl Bench<MemRack, MemRack> {
         ensures known { IfOk result (λ bench.
             AreKnown ⟦<MemRack as Rack>⟧.tells (map ⟦<MemRack as Rack>⟧.state bench.lab.items)) }
     {
-        Ok(Bench {
-            lab: memory_racks(alloc, LAB_RACKS)?,
-            kept: memory_racks(alloc, KEPT_RACKS)?,
-        })
+        Bench::beside(alloc, memory_racks(alloc, KEPT_RACKS)?)
+    }
+}
+
+impl<K: Rack> Bench<MemRack, K> {
+    /// 16 laboratory disks in memory, all empty, beside these that are kept.
+    pub fn beside(alloc: Global, kept: Vec<K>) -> Result<Bench<MemRack, K>, Memory>
+        ensures lab { IfOk result (λ bench. length bench.lab.items ≡ 16) }
+        ensures kept { IfOk result (λ bench. bench.kept ≡ kept) }
+        ensures known { IfOk result (λ bench.
+            AreKnown ⟦<MemRack as Rack>⟧.tells (map ⟦<MemRack as Rack>⟧.state bench.lab.items)) }
+    {
+        let lab = memory_racks(alloc, LAB_RACKS)?;
+        Ok(Bench { lab, kept })
     }
 }
 

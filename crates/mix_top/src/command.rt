@@ -1,19 +1,22 @@
 // The program's commands over any source, sink and disks. The command `drive` carries the headline: whatever the script,
 // its report hands on at most one packet for each epoch key and replay tag, over all restarts, and each is honest. So does
-// `storm`, for events that follow from its words. The other commands are the tools'.
-ghost use Rattle.std.specs.Prelude.{◌≡◌, ◌≢◌, ◌↔◌, ◌≤◌, None, false, true, length, map, string_bytes};
+// `storm`, for events that follow from its words. `look` reads the kept disks. The other commands are the tools'.
+ghost use Rattle.std.specs.Prelude.{◌≡◌, ◌≢◌, ◌↔◌, ◌≤◌, None, false, true, length, map};
+ghost use Rattle.std.specs.Prelude.{string_bytes};
 ghost use Rattle.mix_base.specs.Faults.{Rose};
 ghost use Rattle.lab_text.specs.Readers.{ReachesEnd};
 ghost use Rattle.mix_tools.specs.Answers.{AnswersCommand, EndsInput, EndsTool, ExplainsInput};
 ghost use Rattle.mix_tools.specs.Answers.{HasNoKey, IfKeyless, IsReadBy, IsUnwritten};
 ghost use Rattle.mix_tools.specs.Commands.{command_of};
-ghost use Rattle.mix_top.specs.Commands.{OnDrive, OnStorm, OnTool, names_drive};
+ghost use Rattle.mix_top.specs.Commands.{OnDrive, OnLook, OnStorm, OnTool, names_drive};
 ghost use Rattle.mix_top.specs.Headline.{AnswersScript};
+ghost use Rattle.mix_top.specs.Look.{AnswersLook, look_of};
 ghost use Rattle.mix_top.specs.Storm.{storm_of};
 ghost use Rattle.mix_top.specs.StormHeadline.{AnswersStorm};
 
 use crate::bench::Bench;
 use crate::drive::drive;
+use crate::look::{look_at_disks, read_look};
 use crate::storm::{read_storm, storm};
 use lab_text::Status;
 use mix_base::{Sink, Source};
@@ -23,8 +26,9 @@ use std::alloc::Global;
 
 /// Runs the command that the words name: `drive` reads a script from the source, drives a node over the bench's laboratory
 /// disks, and writes its report to the sink; `storm` drives a node over these disks by its words alone, and writes a summary;
-/// the tools' commands are those of `tool`. `Words` comes exactly where the words are no form of a command, and then source,
-/// sink and bench are as they were. Asks 16 laboratory disks and 32 kept ones, and leaves each in its place.
+/// `look` reads the first kept disks, and writes what their journals come to; the tools' commands are those of `tool`. `Words`
+/// comes exactly where the words are no form of a command, and then source, sink and bench are as they were. Asks 16
+/// laboratory disks and 32 kept ones, and leaves each in its place.
 pub fn mix_command<I: Source, O: Sink, C: CrashRack, K: Rack>(
     alloc: Global,
     words: &[String],
@@ -37,6 +41,7 @@ pub fn mix_command<I: Source, O: Sink, C: CrashRack, K: Rack>(
     ensures forms { (result ≡ Status.Words) ↔
         ((names_drive (map string_bytes words.now) ≡ false)
         × (storm_of (map string_bytes words.now) ≡ None)
+        × (look_of (map string_bytes words.now) ≡ None)
         × (command_of (map string_bytes words.now) ≡ None)) }
     ensures untouched { result ≡ Status.Words → (source.new ≡ source.old) × (sink.new ≡ sink.old) }
 
@@ -55,11 +60,22 @@ pub fn mix_command<I: Source, O: Sink, C: CrashRack, K: Rack>(
     ensures storm_reads_nothing { OnStorm (map string_bytes words.now) (λ named.
         source.new ≡ source.old) }
 
-    // No other command changes a laboratory disk, none a kept one, and each stays in its place.
-    ensures bench { names_drive (map string_bytes words.now) ≡ false →
-        storm_of (map string_bytes words.now) ≡ None → bench.new ≡ bench.old }
-    ensures kept { bench.new.kept ≡ bench.old.kept }
+    // `look`: where the kept disks tell what they hold, just the lines of their journals are given, once all were read; the
+    // disks are only read, and nothing else is.
+    ensures look { OnLook (map string_bytes words.now) (λ shards.
+        AnswersLook K.tells shards result (O.given sink.old) (O.given sink.new)
+        (map K.state bench.old.kept.items) (map K.state bench.new.kept.items)) }
+    ensures look_reads_nothing { OnLook (map string_bytes words.now) (λ shards.
+        source.new ≡ source.old) }
+
+    // No other command than `drive` and `storm` changes a laboratory disk, none but `look` a kept one, and each stays in
+    // its place.
+    ensures lab_stays { names_drive (map string_bytes words.now) ≡ false →
+        storm_of (map string_bytes words.now) ≡ None → bench.new.lab ≡ bench.old.lab }
+    ensures kept_stays { look_of (map string_bytes words.now) ≡ None →
+        bench.new.kept ≡ bench.old.kept }
     ensures lab { length bench.new.lab.items ≡ 16 }
+    ensures kept { length bench.new.kept.items ≡ 32 }
 
     // The tools: where they are told, just the text that is owed is given, and none before the input's end. Line
     // and NoKey have their cause whatever the sink tells.
@@ -93,6 +109,9 @@ pub fn mix_command<I: Source, O: Sink, C: CrashRack, K: Rack>(
     }
     if let Some(named) = read_storm(words) {
         return storm(alloc, &named, sink, &mut bench.lab);
+    }
+    if let Some(shards) = read_look(words) {
+        return look_at_disks(alloc, shards, sink, bench.kept.as_mut_slice());
     }
     match tool(alloc, words, source, sink) {
         Some(status) => status,

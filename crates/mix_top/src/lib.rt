@@ -5,6 +5,7 @@
 mod bench;
 mod command;
 mod drive;
+mod look;
 mod reading;
 mod receiving;
 mod report;

@@ -20,7 +20,7 @@ use prim_std::LabKem;
 use std::alloc::Global;
 
 /// How many records a log of a journal may have: 2^26.
-const LOG_LIMIT: u64 = 1 << 26;
+pub const LOG_LIMIT: u64 = 1 << 26;
 
 /// The next event in a node of so many shards, or None at the script's end.
 pub fn next_event<I: Source>(

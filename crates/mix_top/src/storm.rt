@@ -79,7 +79,7 @@ fn give_summary<O: Sink>(
 }
 
 /// What a put comes to at the end of a run.
-fn put_status(put: Result<(), PutFault>) -> Status
+pub fn put_status(put: Result<(), PutFault>) -> Status
     ensures { result ≡ status_of_put put }
 {
     match put {
