@@ -45,24 +45,32 @@ const CONFIG: Config = Config {
 };
 
 /// The settings above with these lines in place of those of their keys; a line of no key stands at the end.
-fn text_with(alloc: Global, changes: &[(&str, &str)]) -> Result<String, AllocError> {
+fn text_with<'a>(alloc: Global, changes: &[(&'a str, &'a str)]) -> Result<String, AllocError> {
     let mut text = String::new(alloc);
     for (key, line) in LINES {
-        push_line(&mut text, line_of(changes, key).unwrap_or(line))?;
+        push_changed(&mut text, changes, key, line)?;
     }
-    if let Some(line) = line_of(changes, "") {
-        push_line(&mut text, line)?;
+    for (key, line) in changes {
+        if key.is_empty() {
+            push_line(&mut text, line)?;
+        }
     }
     Ok(text)
 }
 
-fn line_of<'a>(changes: &[(&'a str, &'a str)], key: &str) -> Option<&'a str> {
-    for (changed, line) in changes {
+/// The line of this key among the changes, or else this line.
+fn push_changed<'a>(
+    text: &mut String,
+    changes: &[(&'a str, &'a str)],
+    key: &str,
+    line: &str,
+) -> Result<(), AllocError> {
+    for (changed, other) in changes {
         if *changed == key {
-            return Some(*line);
+            return push_line(text, other);
         }
     }
-    None
+    push_line(text, line)
 }
 
 fn push_line(text: &mut String, line: &str) -> Result<(), AllocError> {
@@ -71,7 +79,7 @@ fn push_line(text: &mut String, line: &str) -> Result<(), AllocError> {
 }
 
 /// The place that is named of the settings with these changes, or None where they are read.
-fn bad_place(alloc: Global, changes: &[(&str, &str)]) -> Result<Option<u8>, Fail> {
+fn bad_place<'a>(alloc: Global, changes: &[(&'a str, &'a str)]) -> Result<Option<u8>, Fail> {
     let text = text_with(alloc, changes)?;
     match read_config(alloc, text.as_bytes()) {
         Ok(_) => Ok(None),
@@ -218,7 +226,7 @@ fn the_first_bad_place_is_named(rt: HostRuntime) -> Result<(), Fail> {
 fn long_text(alloc: Global, size: usize) -> Result<String, AllocError> {
     let mut text = text_with(alloc, &[])?;
     text.push_str("#")?;
-    while text.len() < size {
+    for _ in text.len()..size {
         text.push_str("x")?;
     }
     Ok(text)
