@@ -1,0 +1,8 @@
+// A node with threads.
+#![tactic(auto)]
+
+mod life;
+mod roles;
+
+pub use life::{LifeEnd, LifeFault, NodeEnd, NodeSeat};
+pub use roles::Role;
