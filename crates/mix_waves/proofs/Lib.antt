@@ -1,0 +1,6 @@
+mod Draws
+mod FateLaws
+mod Giving
+mod MadeMessages
+mod NodeKeys
+mod Waves
