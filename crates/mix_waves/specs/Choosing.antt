@@ -1,5 +1,5 @@
--- Words of private functions and proofs alone: what was drawn, without the room that its lists have, and what the makers of a
--- message ask.
+-- Words of private functions and proofs alone: what was drawn, without the room that its lists have, and what the makers of
+-- a message ask.
 use Rattle.std.specs.Prelude.{◌≡◌, ℕ, ◌*◌, ◌≤◌, List, length, All, Some, IsSome}
 use Rattle.sphinx_make.specs.declared.path.HopSpec.{HopSpec}
 use Rattle.mix_tools.specs.Suites.{scheme_for}

@@ -234,7 +234,8 @@ fn fate_by<S: Suite>(
     requires suite { S.meaning ≡ meaning_for config.now.ntru }
     requires geometry { geo.now ≡ sizes_of config.now }
     requires body { body.now ≡ fates.reply_body config.now message.now.number }
-    ensures { IfOk result (λ fate. fate ≡ fates.fate_by config.now (message_seen message.now) out.now) }
+    ensures { IfOk result (λ fate.
+        fate ≡ fates.fate_by config.now (message_seen message.now) out.now) }
 {
     let Out::Reply {
         recipient: _,

@@ -7,6 +7,8 @@ mod fates;
 mod network;
 mod report;
 mod sending;
+#[cfg(test)]
+mod tests;
 
 pub use fates::{MessageFate, ReplyFate, deliveries, message_fates, replies};
 pub use network::{first_disk, geometry, node_id, node_keys, node_number, node_seed, times};

@@ -85,7 +85,8 @@ fn count_opened(messages: &[MessageFate]) -> usize
 
 /// Adds a line for each message.
 fn add_messages(lines: &mut Vec<ReportLine>, messages: &[MessageFate]) -> Result<(), AllocError>
-    ensures { OnOk result (lines.new.items ≡ lines.old.items ++ map reports.message_line messages.now) }
+    ensures { OnOk result (lines.new.items ≡ lines.old.items
+        ++ map reports.message_line messages.now) }
 {
     'messages: for message in messages {
         lines.push(ReportLine::Message {
@@ -189,7 +190,8 @@ fn spell_replies(alloc: Global, sent: usize, opened: usize) -> Result<String, Al
 
 /// The text of a shard's line.
 fn spell_count(alloc: Global, count: &ShardCount) -> Result<String, AllocError>
-    ensures { IfOk result (λ text. string_bytes text ≡ reports.text_of (reports.node_line count.now)) }
+    ensures { IfOk result (λ text.
+        string_bytes text ≡ reports.text_of (reports.node_line count.now)) }
 {
     let ShardCount {
         node,

@@ -109,7 +109,8 @@ fn make_message<S: Suite>(
     requires keys { AreKeys config.now keys.now }
     requires drawn { HasDraws config.now drawn.now }
     ensures made { IfOk result (λ message. (behind : ℕ → ℕ) →
-        made_of config.now keys.now number (drawn_with drawn.now behind) ≡ Ok (message_seen message)) }
+        made_of config.now keys.now number (drawn_with drawn.now behind)
+        ≡ Ok (message_seen message)) }
     ensures block { IfOk result (λ message. length message.block ≡ lengths.block geo.now) }
 {
     let back = path(alloc, config, keys, &drawn.back, &drawn.back_delays)?;
@@ -232,7 +233,8 @@ fn path(
     requires keys { AreKeys config.now keys.now }
     requires words { length words.now ≡ config.now.layers }
     requires delays { AreDelays config.now delays.now }
-    ensures path { IfOk result (λ path. path.items ≡ path_by config.now keys.now words.now delays.now) }
+    ensures path { IfOk result (λ path.
+        path.items ≡ path_by config.now keys.now words.now delays.now) }
     ensures fine { IfOk result (λ path. IsPath config.now path.items) }
 {
     let mut path = Vec::new(alloc);
