@@ -21,7 +21,7 @@ use Rattle.node_run.specs.declared.roles.Role.{Role}
 use Rattle.node_run.specs.declared.roles.Role.TheVariants.{Listener, Worker, Keeper, Connector, Rotator, Spare}
 
 -- the element of the first list beside one of the second
-zipped_at : {X Y : Type 0} (Are : X → Y → Type 0) (xs : List X) (ys : List Y) → AllZip Are xs ys → (i : ℕ) (y : Y) → slice_get ys i ≡ Some y
+pub zipped_at : {X Y : Type 0} (Are : X → Y → Type 0) (xs : List X) (ys : List Y) → AllZip Are xs ys → (i : ℕ) (y : Y) → slice_get ys i ≡ Some y
     → (x : X) × (slice_get xs i ≡ Some x) × Are x y
 zipped_at Are [] [] all i y at = absurd (cc)
 zipped_at Are [] (y ∷ ys) all i one at = absurd all

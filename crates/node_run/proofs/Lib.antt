@@ -9,9 +9,11 @@ pub mod Columns
 pub mod Crewed
 pub mod Dealing
 pub mod Elements
+pub mod Ended
 pub mod EvenOdd
 pub mod Filling
 pub mod Hallways
+pub mod Gathered
 pub mod HandingOn
 pub mod Joining
 pub mod Leftovers
@@ -19,6 +21,7 @@ pub mod Living
 pub mod Moving
 pub mod Numbering
 pub mod Outcomes
+pub mod Parts
 pub mod Peeling
 pub mod Playing
 pub mod Posting
@@ -29,6 +32,7 @@ pub mod Shutting
 pub mod Sorting
 pub mod Spaced
 pub mod Staffed
+pub mod Streets
 pub mod TakingOnce
 pub mod Timing
 pub mod Unlocking

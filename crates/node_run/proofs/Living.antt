@@ -30,7 +30,7 @@ use Rattle.node_actors.proofs.Drained.{spent_is_drained, stays_spent}
 use Rattle.node_run.specs.Accounts.{tales_since}
 use Rattle.node_run.specs.Halls.{IsHallLock, fresh_seat}
 use Rattle.node_run.specs.Lefts.{LeftAs, Staffing, new_rotator}
-use Rattle.node_run.specs.Lives.{CoversAccepted, Lives}
+use Rattle.node_run.specs.Lives.{CoversAccepted, Lives, Rests}
 use Rattle.node_run.specs.Orders.{claimed_number}
 use Rattle.node_run.specs.declared.roles.Role.{Role}
 use Rattle.node_run.proofs.Arriving.{record_is}
@@ -52,7 +52,7 @@ claim_is (Done caller) yes' = absurd (cc)
 claim_is (Reopened caller floor pairs) yes' = absurd (cc)
 
 -- whatever a crash leaves of a rack, it covers what was accepted
-pub lasts : (tells : Type 0) (suite : SuiteMeaning) (shard : ShardState) → IsKept tells suite shard → tells → CoversAccepted shard
+lasts : (tells : Type 0) (suite : SuiteMeaning) (shard : ShardState) → IsKept tells suite shard → tells → CoversAccepted shard
 lasts tells suite shard kept t image =
     let start = began shard.terms shard.first.areas in
     let Covers : ℕ × List ℕ → Type 0 = λ pair. IsCovered (stores.opened shard.terms.shape shard.terms.limit shard.rack.areas image) pair.0 pair.1 in
@@ -125,5 +125,7 @@ module _ {N O C : Type 0} (suite : SuiteMeaning) (left : N → Option (List ℕ)
       drained = all_each IsDrained shards (λ shard found.
           let at = at_there shards shard found in
           shard_drained at.0 shard at.1 (All-contains (IsKept tells suite) shards shard kept found));
-      lasts = λ t. all_each CoversAccepted shards (λ shard found. lasts tells suite shard (All-contains (IsKept tells suite) shards shard kept found) t);
     }
+
+    pub rests : Rests tells shards
+    rests t = all_each CoversAccepted shards (λ shard found. lasts tells suite shard (All-contains (IsKept tells suite) shards shard kept found) t)

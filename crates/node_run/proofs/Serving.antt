@@ -13,7 +13,7 @@ use Rattle.node_run.proofs.Arrived.{arrivals}
 use Rattle.node_run.proofs.Claiming.{moves}
 use Rattle.node_run.proofs.HandingOn.{hand_ons}
 use Rattle.node_run.proofs.Joining.{HasEnded}
-use Rattle.node_run.proofs.Living.{lives}
+use Rattle.node_run.proofs.Living.{lives, rests}
 use Rattle.node_run.proofs.Timing.{moments}
 
 pub served : {N O C : Type 0} (tells : Type 0) (suite : SuiteMeaning) (left : N → Option (List ℕ)) (in_faults : N → ℕ) (given : O → Option (List (List ℕ))) (out_faults : O → ℕ)
@@ -26,5 +26,6 @@ served tells suite left in_faults given out_faults may_give node lefts shards en
   arrivals = arrivals suite left in_faults given out_faults may_give node lefts shards ended;
   moves = moves suite left in_faults given out_faults may_give node lefts shards ended;
   hand_ons = hand_ons suite left in_faults given out_faults may_give node lefts shards ended tells kept;
+  rests = rests suite left in_faults given out_faults may_give node lefts shards ended tells kept;
   moments = moments suite left in_faults given out_faults may_give node lefts shards ended;
 }

@@ -11,7 +11,8 @@ use Rattle.node_actors.specs.declared.actors.works.Left.{Left}
 use Rattle.node_run.specs.Accounts.{dropped_of, hands_of, unsent_of}
 use Rattle.node_run.specs.Closings.{AreHands}
 use Rattle.node_run.specs.Gatherings.{all_of, count_in, link_in, link_out_in, local_in, receiver_in, senders_in}
-use Rattle.node_run.specs.Halls.{HallState, fresh_passes}
+use Rattle.node_run.specs.Halls.{HallState}
+use Rattle.node_run.specs.Openings.{AreFreshHands}
 use Rattle.node_run.specs.Settlings.{CanSettle}
 
 module _ {N O : Type 0} where
@@ -32,9 +33,8 @@ module _ {N O : Type 0} where
 -- ---- a life that didn't begin
 
 -- each caller's passes, as the locks were made
-pub record AreUnused (hall : HallState) (hands : List (Vec (Caller Told))) : Type 0 where
-  pub many : length hands ≡ hall.callers
-  pub each : (c : ℕ) (hand : Vec (Caller Told)) → slice_get hands c ≡ Some hand → hand.items ≡ fresh_passes hall.locks c
+abbrev pub AreUnused : HallState → List (Vec (Caller Told)) → Type 0
+AreUnused hall hands = AreFreshHands hall.locks hall.callers hands
 
 -- the shard behind a lock as it was handed in: it holds nothing, and nobody is done
 pub record IsBack (tells : Type 0) (suite : SuiteMeaning) (lock : Lock Told) (shard : ShardState) : Type 0 where

@@ -19,9 +19,12 @@ CoversAccepted shard =
     → All (λ pair. IsCovered (stores.opened shard.terms.shape shard.terms.limit shard.rack.areas image) pair.0 pair.1) (accepted shard.told)
 
 -- each began as the value that its lock was made with, and since then holds the calls of each caller, each once and in
--- its order; its tale leads to its state; nothing is held, and whoever may claim is done; and what was accepted lasts
+-- its order; its tale leads to its state; nothing is held, and whoever may claim is done
 pub record Lives {N O : Type 0} (tells : Type 0) (suite : SuiteMeaning) (locks : List (Lock Told)) (lefts : List (Left (Caller Told) Item N O)) (shards : List ShardState) : Type 0 where
   pub closed : AreClosed locks (hands_of lefts) shards
   pub kept : All (IsKept tells suite) shards
   pub drained : All IsDrained shards
-  pub lasts : tells → All CoversAccepted shards
+
+-- where the racks tell their contents, what was accepted lasts
+abbrev pub Rests : Type 0 → List ShardState → Type 0
+Rests tells shards = tells → All CoversAccepted shards

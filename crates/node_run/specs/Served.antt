@@ -10,7 +10,7 @@ use Rattle.node_run.specs.Accounts.{tales_since}
 use Rattle.node_run.specs.Arrivals.{Arrivals}
 use Rattle.node_run.specs.HandOns.{HandOns}
 use Rattle.node_run.specs.Lefts.{Staffing}
-use Rattle.node_run.specs.Lives.{Lives}
+use Rattle.node_run.specs.Lives.{Lives, Rests}
 use Rattle.node_run.specs.Moments.{KeepsMoments}
 use Rattle.node_run.specs.Moves.{Moves}
 use Rattle.node_run.specs.Roles.{callers_for}
@@ -24,4 +24,5 @@ pub record Served {N O C : Type 0} (tells : Type 0) (suite : SuiteMeaning) (left
   pub arrivals : Arrivals suite left in_faults node lefts (tales_since node.hall.locks shards)
   pub moves : Moves (length node.incoming) (tales_since node.hall.locks shards)
   pub hand_ons : HandOns suite given out_faults node tells lefts (tales_since node.hall.locks shards)
+  pub rests : Rests tells shards
   pub moments : KeepsMoments (may_give node.clock) lefts (tales_since node.hall.locks shards)

@@ -1,10 +1,13 @@
 // The life of a network's nodes.
 mod closing;
+mod crews;
 mod ending;
 mod gathering;
 mod halls;
+mod houses;
 mod locking;
 mod opening;
+mod partings;
 mod posts;
 mod queues;
 mod rooms;

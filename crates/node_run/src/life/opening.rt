@@ -106,7 +106,7 @@ pub(crate) fn open_node<R: Rack, S: Suite, N: LinkIn, O: LinkOut>(
 }
 
 /// Half of how many callers a node has with so many listeners, workers and outgoing links.
-fn pairs_for(listeners: usize, workers: u32, links: usize) -> usize
+pub(crate) fn pairs_for(listeners: usize, workers: u32, links: usize) -> usize
     requires { callers_for listeners workers links < 2 ^ 32 }
     ensures { 2 * result ≡ callers_for listeners workers links }
 {
