@@ -1,5 +1,5 @@
 -- The threads of a life: the callers of all nodes and the feeds, one behind the other.
-use Rattle.std.proofs.Common.{◌≡◌, ◌<◌, ◌+◌, ℕ, List, [], ◌∷◌, ◌++◌, length, map, take, append_assoc, sym, ap, subst, ◌∙◌}
+use Rattle.std.proofs.Common.{◌≡◌, ◌<◌, ◌+◌, ℕ, List, [], ◌∷◌, ◌++◌, length, length-append, map, take, append_assoc, sym, ap, subst, ◌∙◌}
 use Rattle.std.specs.Global.{Vec}
 use Rattle.std.specs.List.{AllZip}
 use Rattle.std.specs.Prelude.{⊤, Option, get_or}
@@ -41,6 +41,12 @@ module _ {H R S N O C G K M D Z W : Type 0} where
     new_is = more_is ∙ ap (λ (xs : List (NodeActor H R S N O C G K M D Z W)). xs ++ Feeds feeder ∷ []) adds.new_is ∙ append_assoc first adds.added (Feeds feeder ∷ []);
     are = zip_snoc IsFeeder feeds adds.added feed (Feeds feeder) adds.are is;
   }
+
+  -- as many more as there are feeds
+  pub crew_many : (feeds : List (Feed O)) (first all : List (NodeActor H R S N O C G K M D Z W)) → AddsFeeders feeds first all → length all ≡ length first + length feeds
+  crew_many feeds first all adds =
+      ap (λ (xs : List (NodeActor H R S N O C G K M D Z W)). length xs) adds.new_is ∙ length-append first adds.added
+      ∙ ap (λ (n : ℕ). length first + n) (AllZip-long IsFeeder feeds adds.added adds.are)
 
 module _ {H R S N O C G K M D Z W : Type 0} (suite : SuiteMeaning) (may_give : C → ℕ → Type 0) (left : N → Option (List ℕ)) (in_faults : N → ℕ)
     (given : O → Option (List (List ℕ))) (out_faults : O → ℕ) (clock : C) where

@@ -7,6 +7,7 @@ pub mod CallerKinds
 pub mod Claiming
 pub mod Columns
 pub mod Crewed
+pub mod Crossing
 pub mod Dealing
 pub mod Elements
 pub mod Ended
@@ -17,6 +18,7 @@ pub mod Gathered
 pub mod HandingOn
 pub mod Joining
 pub mod Leftovers
+pub mod Lived
 pub mod Living
 pub mod Moving
 pub mod Numbering
@@ -26,6 +28,7 @@ pub mod Peeling
 pub mod Playing
 pub mod Posting
 pub mod Queueing
+pub mod Ran
 pub mod Serving
 pub mod Settled
 pub mod Shutting

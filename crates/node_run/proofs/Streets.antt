@@ -1,5 +1,5 @@
 -- The nodes of a life are opened one after the other, the last first, or come back.
-use Rattle.std.proofs.Common.{◌≡◌, ◌<◌, ◌+◌, ℕ, suc, List, [], ◌∷◌, ◌++◌, length, map, reverse, refl, sym, ap, subst, ◌∙◌, arith}
+use Rattle.std.proofs.Common.{◌≡◌, ◌<◌, ◌≤◌, ◌+◌, ℕ, suc, List, [], ◌∷◌, ◌++◌, length, map, reverse, refl, sym, ap, subst, ◌∙◌, arith}
 use Rattle.std.specs.Prelude.{All}
 use Rattle.std.specs.Global.{Vec}
 use Rattle.std.specs.List.{AllZip}
@@ -35,6 +35,10 @@ room_as rooms a b c d e v w x y z one two three four five is =
 
 pub has_room_as : {A : Type 0} (list : Vec A) (m n : ℕ) → m ≡ n → HasRoom m list → HasRoom n list
 has_room_as list m n same is = subst (λ (k : ℕ). HasRoom k list) same is
+
+-- and so is room for fewer
+pub has_room_for_fewer : {A : Type 0} (list : Vec A) (m n : ℕ) → n ≤ m → HasRoom m list → HasRoom n list
+has_room_for_fewer list m n low is = record { empty = is.empty; room = omega (arith, low, is.room) }
 
 module _ {R S N O K M D Z W : Type 0} where
   -- what was opened for a seat is its house

@@ -21,8 +21,10 @@ pub mod Orders
 pub mod Partings
 pub mod Parts
 pub mod Posts
+pub mod Promises
 pub mod Roles
 pub mod Rooms
+pub mod Runs
 pub mod Seats
 pub mod Served
 pub mod Settlings

@@ -1,6 +1,7 @@
 -- The memory that closing a node needs: empty lists with room.
 use Rattle.std.specs.Prelude.{◌≡◌, ◌≤◌, ℕ, All, [], length, vec_capacity}
 use Rattle.std.specs.Global.{Vec}
+use Rattle.node_run.specs.declared.life.living.Ends.{Ends}
 use Rattle.node_run.specs.declared.life.rooms.Rooms.{Rooms}
 use Rattle.node_run.specs.declared.life.rooms.Works.{Works}
 
@@ -29,3 +30,10 @@ pub record IsRoomFor {Q T P N O : Type 0} (shards callers listeners workers link
   pub passes : AreEmpty shards callers rooms.passes
   pub shards_room : HasRoom shards rooms.shards
   pub works : HasRoomFor listeners workers links rooms.works
+
+-- room for the end of a life with so many threads, nodes and feeds
+pub record HasRooms {R S N O K M D Z W : Type 0} (threads nodes feeds : ℕ) (room : Ends R S N O K M D Z W) : Type 0 where
+  pub threads_are : room.threads ≡ threads
+  pub hands_room : HasRoom threads room.hands
+  pub nodes_room : HasRoom nodes room.nodes
+  pub links_room : HasRoom feeds room.links

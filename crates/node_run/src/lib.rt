@@ -4,5 +4,5 @@
 mod life;
 mod roles;
 
-pub use life::{LifeEnd, LifeFault, NodeEnd, NodeSeat};
+pub use life::{LifeEnd, LifeFault, NodeEnd, NodeSeat, node_life};
 pub use roles::Role;

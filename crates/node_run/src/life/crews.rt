@@ -1,5 +1,5 @@
 // All threads of a life, side by side.
-ghost use Rattle.std.specs.Prelude.{◌≡◌, ◌+◌, ◌≤◌, [], All, length, map, vec_capacity, vec_len, IfSome};
+ghost use Rattle.std.specs.Prelude.{◌≡◌, ◌+◌, ◌≤◌, [], All, length, vec_capacity, vec_len, IfSome};
 ghost use Rattle.std.specs.List.{AllZip};
 ghost use Rattle.node_run.specs.Crews.{AddsFeeders, IsHandOf, IsStaffOf, callers_in, staff_in};
 ghost use Rattle.node_run.specs.Seats.{CanLive};
@@ -35,16 +35,16 @@ pub(crate) fn count_threads<R: Rack, S: Suite, N: LinkIn, O: LinkOut>(
     Some(many)
 }
 
-/// Puts the actors of all nodes behind the others.
-fn staff_all<'a, H, R, S, N, O, C, G>(
+/// The actors of all nodes, in the room of this list.
+pub(crate) fn staff_all<'a, H, R, S, N, O, C, G>(
     rt: &'a H,
     alloc: Global,
     houses: &'a [House<R, S, N, O>],
     clock: &'a C,
     gate: &'a G,
     desks: Vec<Desk<R, S, N, O>>,
-    actors: &mut Vec<NodeActor<'a, H, R, S, N, O, C, G>>,
-)
+    mut actors: Vec<NodeActor<'a, H, R, S, N, O, C, G>>,
+) -> Vec<NodeActor<'a, H, R, S, N, O, C, G>>
 where
     H: Wait,
     R: Rack,
@@ -55,28 +55,29 @@ where
     G: Gate,
     requires standing { All (IsStanding S.K.CT) houses.now }
     requires desks { AllZip IsDesk houses.now desks.items }
-    requires none { actors.old.items ≡ [] }
-    requires room { vec_len actors.old + staff_in houses.now ≤ vec_capacity actors.old }
-    ensures staff { Parted (IsStaffOf S.meaning C.may_give N.left N.faults O.given O.faults clock.now)
-        (λ rest. rest ≡ []) houses.now actors.new.items }
-    ensures len { vec_len actors.new ≡ vec_len actors.old + staff_in houses.now }
-    ensures room { vec_capacity actors.new ≡ vec_capacity actors.old }
+    requires room { HasRoom (staff_in houses.now) actors }
+    ensures staff { Parted
+        (IsStaffOf S.meaning C.may_give N.left N.faults O.given O.faults clock.now)
+        (λ rest. rest ≡ []) houses.now result.items }
+    ensures len { vec_len result ≡ staff_in houses.now }
+    ensures room { vec_capacity result ≡ vec_capacity actors.entry }
 {
     let mut desks = desks.into_iter();
     for house in houses {
         let Some(desk) = desks.next() else {
             unreachable!()
         };
-        staff(rt, alloc, &house.hall, clock, gate, desk, actors);
+        staff(rt, alloc, &house.hall, clock, gate, desk, &mut actors);
     }
+    actors
 }
 
 /// Puts the actors of these feeds behind the others.
-fn add_feeders<'a, H, R, S, N, O, C, G>(
+pub(crate) fn add_feeders<'a, H, R, S, N, O, C, G>(
     alloc: Global,
     feeds: Vec<Feed<O>>,
-    actors: &mut Vec<NodeActor<'a, H, R, S, N, O, C, G>>,
-)
+    mut actors: Vec<NodeActor<'a, H, R, S, N, O, C, G>>,
+) -> Vec<NodeActor<'a, H, R, S, N, O, C, G>>
 where
     H: Wait,
     R: Rack,
@@ -85,16 +86,17 @@ where
     O: LinkOut,
     C: Clock,
     G: Gate,
-    requires room { vec_len actors.old + length feeds.items ≤ vec_capacity actors.old }
-    ensures { AddsFeeders feeds.items actors.old.items actors.new.items }
+    requires room { vec_len actors + length feeds.items ≤ vec_capacity actors }
+    ensures { AddsFeeders feeds.items actors.entry.items result.items }
 {
     for feed in feeds {
         actors.push_reserved(NodeActor::Feeds(Feeder::new(alloc, feed)));
     }
+    actors
 }
 
 /// The passes of actors that weren't run, one list for each, in the room of this list.
-fn hand_all_back<'a, H, R, S, N, O, C, G>(
+pub(crate) fn hand_all_back<'a, H, R, S, N, O, C, G>(
     actors: Vec<NodeActor<'a, H, R, S, N, O, C, G>>,
     mut hands: Vec<Vec<ShardPass<R, S>>>,
 ) -> Vec<Vec<ShardPass<R, S>>>

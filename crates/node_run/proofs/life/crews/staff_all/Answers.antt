@@ -1,4 +1,4 @@
-use Rattle.std.proofs.Common.{rules, ◌≡◌, ◌<◌, ◌+◌, [], length, refl, sym, subst, ◌∙◌, vec_len, arith}
+use Rattle.std.proofs.Common.{rules, ◌≡◌, ◌<◌, ◌+◌, List, [], length, refl, sym, ap, subst, ◌∙◌, vec_len, arith}
 use Rattle.std.specs.List.{AllZip}
 use Rattle.std.specs.Vec.Iter.{into_iter_items}
 use Rattle.node_run.specs.Crews.{IsStaffOf, staff_in}
@@ -12,10 +12,24 @@ pub loop-house-init : goal.loop-house-init
 loop-house-init g c = record {
   desks = subst (λ ds. AllZip IsDesk c.args.houses.now ds) (sym c.into_iter-desks.ensures.rest) c.requires.desks;
   staff = none_parted (IsStaffOf g.S.Suite.meaning g.C.Clock.may_give g.N.LinkIn.left g.N.LinkIn.faults g.O.LinkOut.given g.O.LinkOut.faults c.args.clock.now)
-      c.args.actors.now.items c.requires.none;
-  len = omega arith;
+      c.args.actors.items c.requires.room.empty;
+  len = omega (arith, c.args.actors.ok.0, ap (λ (xs : List _). length xs) c.requires.room.empty);
   room = refl;
 }
+
+pub staff-requires-clause-hands : goal.staff-requires-clause-hands
+staff-requires-clause-hands g c =
+    let house = c.house-item.result in
+    let next = next_both IsDesk c.args.houses.now c.loop-house.house-index house (into_iter_items c.loop-house.desks) (into_iter_items c.next.new.self) c.in-Some.desk
+    (search rules) c.house-item.is c.loop-house.invariant.desks c.in-Some.ensures.items in
+    next.0.hands
+
+pub staff-requires-clause-posts : goal.staff-requires-clause-posts
+staff-requires-clause-posts g c =
+    let house = c.house-item.result in
+    let next = next_both IsDesk c.args.houses.now c.loop-house.house-index house (into_iter_items c.loop-house.desks) (into_iter_items c.next.new.self) c.in-Some.desk
+    (search rules) c.house-item.is c.loop-house.invariant.desks c.in-Some.ensures.items in
+    next.0.posts
 
 pub staff-requires-clause-working : goal.staff-requires-clause-working
 staff-requires-clause-working g c =
@@ -28,7 +42,7 @@ staff-requires-clause-room g c =
     let house = c.house-item.result in
     let fits = sum_fits (λ house. house.hall.callers) c.args.houses.now c.loop-house.house-index house (search rules) c.house-item.is in
     let before = c.loop-house.invariant in
-    omega (arith, fits, before.len, before.room, c.requires.room)
+    omega (arith, fits, before.len, before.room, c.requires.room.room)
 
 pub loop-house-preserved : goal.loop-house-preserved
 loop-house-preserved g c =
@@ -55,5 +69,5 @@ returns-clause-staff g c =
 
 pub returns-clause-len : goal.returns-clause-len
 returns-clause-len g c =
-    subst (λ hs. vec_len c.loop-house.actors ≡ vec_len c.args.actors.now + staff_in hs)
+    subst (λ hs. vec_len c.loop-house.actors ≡ staff_in hs)
     (whole_front c.args.houses.now c.loop-house.house-index c.loop-house.auto.house-index-end c.loop-house-test.false) c.loop-house.invariant.len

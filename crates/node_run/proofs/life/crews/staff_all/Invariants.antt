@@ -11,6 +11,6 @@ invariant-loop-house g l = record {
   desks : AllZip IsDesk (drop l.house-index l.houses) (into_iter_items l.desks);
   staff : Parted (IsStaffOf g.S.Suite.meaning g.C.Clock.may_give g.N.LinkIn.left g.N.LinkIn.faults g.O.LinkOut.given g.O.LinkOut.faults l.clock)
       (λ rest. rest ≡ []) (take l.house-index l.houses) l.actors.items;
-  len : vec_len l.actors ≡ vec_len l.initial.actors + staff_in (take l.house-index l.houses);
-  room : vec_capacity l.actors ≡ vec_capacity l.initial.actors;
+  len : vec_len l.actors ≡ staff_in (take l.house-index l.houses);
+  room : vec_capacity l.actors ≡ vec_capacity l.fn.actors;
 }
