@@ -1,5 +1,5 @@
 -- A connector, the local connector and the rotator go on.
-use Rattle.std.proofs.Common.{◌≡◌, ℕ, ◌-◌, ◌^◌, ◌+◌, List, [], ◌∷◌, ◌++◌, refl, subst, sym, ◌∙◌, min}
+use Rattle.std.proofs.Common.{◌≡◌, ℕ, ◌-◌, ◌^◌, ◌+◌, List, [], ◌∷◌, ◌++◌, refl, subst, sym, ◌∙◌, min, true}
 use Rattle.std.specs.Prelude.{All}
 use Rattle.mix_base.specs.Suites.{SuiteMeaning}
 use Rattle.due_queue.specs.declared.destinations.Dest.TheVariants.{Hop, Local}
@@ -67,9 +67,9 @@ module _ {C : Type 0} (suite : SuiteMeaning) (may_give : C → ℕ → Type 0) w
     pub kept_on : (item : Item) (unsent : ℕ) (taking : Taking Item) (local : List Item) → taking.shard ≡ i → taking.item.value ≡ item → IsHeld suite item → item.setup ≡ old.taker.seat.setup
         → WasAcceptedAt old.taker.seat seat i item → IsUnlinked old.hops (destination item.out)
         → ActsAt i (IsTakenBy old.taker.seat.caller moment (kinds.Packet item)) old.taker.seat seat → local ≡ old.local ++ kept_where taking.sent item
-        → All (λ x. destination x.out ≡ Local) (kept_where taking.sent item) → unsent ≡ min (old.taker.unsent + not_sent taking.sent) (2 ^ 64 - 1)
+        → All (λ x. destination x.out ≡ Local) (kept_where taking.sent item) → (destination item.out ≡ Local → taking.sent ≡ true) → unsent ≡ min (old.taker.unsent + not_sent taking.sent) (2 ^ 64 - 1)
         → HasKept suite may_give (record old { taker = record { seat = seat; log = old.taker.log ++ taking ∷ []; unsent = unsent }; local = local })
-    kept_on item unsent taking local here item_is held under accepted unlinked acts kept own count =
+    kept_on item unsent taking local here item_is held under accepted unlinked acts kept own none_lost count =
         let Own = IsTakenBy old.taker.seat.caller moment (kinds.Packet item) in
         record {
           taken = taken_on suite old.taker seat item moment unsent taking has.taken item_is held under (subst (λ (n : ℕ). WasAcceptedAt old.taker.seat seat n item) (sym here) accepted)
@@ -79,7 +79,8 @@ module _ {C : Type 0} (suite : SuiteMeaning) (may_give : C → ℕ → Type 0) w
           keeps = keeps_on old.hops old.local local old.taker.log taking has.keeps
               (subst (λ (x : Item). IsUnlinked old.hops (destination x.out)) (sym item_is) unlinked)
               (subst (λ (x : Item). local ≡ old.local ++ kept_where taking.sent x) (sym item_is) kept)
-              (subst (λ (x : Item). All (λ y. destination y.out ≡ Local) (kept_where taking.sent x)) (sym item_is) own);
+              (subst (λ (x : Item). All (λ y. destination y.out ≡ Local) (kept_where taking.sent x)) (sym item_is) own)
+              (subst (λ (x : Item). destination x.out ≡ Local → taking.sent ≡ true) (sym item_is) none_lost);
         }
 
     pub kept_still : (found : Found Item) → IsNoPacket found → ActsAt i (IsTakenBy old.taker.seat.caller moment found) old.taker.seat seat

@@ -106,16 +106,19 @@ keeps_first hops = record {
   unlinked = λ k d low. absurd (omega (arith, low));
   local_is = refl;
   for_recipients = λ k d low. absurd (omega (arith, low));
+  none_lost = λ k d low. absurd (omega (arith, low));
 }
 
 pub keeps_on : (hops : List (List ℕ)) (local new : List Item) (log : List (Taking Item)) (taking : Taking Item) → KeepsLocal hops local log
     → IsUnlinked hops (destination taking.item.value.out) → new ≡ local ++ kept_where taking.sent taking.item.value
-    → All (λ item. destination item.out ≡ Local) (kept_where taking.sent taking.item.value) → KeepsLocal hops new (log ++ taking ∷ [])
-keeps_on hops local new log taking keeps unlinked kept own = record {
+    → All (λ item. destination item.out ≡ Local) (kept_where taking.sent taking.item.value) → (destination taking.item.value.out ≡ Local → taking.sent ≡ true)
+    → KeepsLocal hops new (log ++ taking ∷ [])
+keeps_on hops local new log taking keeps unlinked kept own none_lost = record {
   unlinked = All-push (λ (t : Taking Item). IsUnlinked hops (destination t.item.value.out)) log taking keeps.unlinked unlinked;
   local_is = kept ∙ (ap (λ (items : List Item). items ++ kept_where taking.sent taking.item.value) keeps.local_is ∙ sym (kept_more log taking));
   for_recipients = subst (All (λ item. destination item.out ≡ Local)) (sym kept)
       (All-append (λ item. destination item.out ≡ Local) local (kept_where taking.sent taking.item.value) keeps.for_recipients own);
+  none_lost = All-push (λ (t : Taking Item). destination t.item.value.out ≡ Local → t.sent ≡ true) log taking keeps.none_lost none_lost;
 }
 
 -- ---- a feed

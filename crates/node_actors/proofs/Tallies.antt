@@ -1,9 +1,10 @@
 -- What a tale says of its end: which callers are done is who ended, and as many packets are held as were accepted and not
 -- taken out.
 use Rattle.std.proofs.Common.{◌≡◌, ℕ, ◌+◌, ◌<◌, ◌==◌, ◌||◌, Bool, true, false, List, [], ◌∷◌, ◌++◌, length, get_or, set, refl, sym, ap, subst, ◌∙◌, ⊎_elim, arith, eq-eqb, ne_eqb, Result, Ok, Err}
-use Rattle.std.specs.Prelude.{cond, filter}
-use Rattle.std.proofs.lemmas.List.{get_or-set_same, get_or-set_other, length-set, length-append}
-use Rattle.std.proofs.lemmas.List.Sorted.{length_permutation}
+use Rattle.std.specs.Prelude.{cond, filter, sum_by}
+use Rattle.std.proofs.lemmas.List.{get_or-set_same, get_or-set_other, length-set}
+use Rattle.std.proofs.lemmas.List.Sorted.{sum_by-IsPermutation, sum_by_popped}
+use Rattle.std.proofs.lemmas.List.Sums.{sum_by-append, sum_by-cons}
 use mathlib.Core.Logic.{dite}
 use native.Mathlib.Decide.{ℕ_discrete}
 use Rattle.mix_base.specs.Suites.{SuiteMeaning}
@@ -95,35 +96,51 @@ module _ (tells : Type 0) (suite : SuiteMeaning) (terms : Terms) where
             ∙ or_swap (ends_by c told.entry) (has_ended c others) (get_or old.done c false)),
       )
 
-  -- ---- what is held
+-- ---- what is held, each packet by a weight of its number
 
-  abbrev Tallies : Entry → State → State → Type 0
-  Tallies entry old new = length new.held + one (is_take entry) ≡ length old.held + one (is_accepted entry)
+abbrev pub taken_weight : (ℕ → ℕ) → Entry → ℕ
+taken_weight weight (Take caller number dest moment) = weight number
+taken_weight weight _ = 0
 
-  claim_tallies : (caller number epoch : ℕ) (tag : List ℕ) (at : ℕ) (answer : Answer) (item : Item) (old new : State) (result : Result (Unit {0}) ClaimFault)
-      → answer ≡ claim_answer result → HeldAfter result item old.held new.held → Tallies (Claim caller number epoch tag at answer) old new
-  claim_tallies caller number epoch tag at answer item old new result is held =
-      subst (λ (a : Answer). Tallies (Claim caller number epoch tag at a) old new) (sym is) (by_result result held)
+abbrev pub accepted_weight : (ℕ → ℕ) → Entry → ℕ
+accepted_weight weight (Claim caller number epoch tag at Taken) = weight number
+accepted_weight weight _ = 0
+
+abbrev pub held_weight : (ℕ → ℕ) → List Item → ℕ
+held_weight weight items = sum_by (λ item. weight item.number) items
+
+module _ (tells : Type 0) (suite : SuiteMeaning) (terms : Terms) (weight : ℕ → ℕ) where
+  abbrev Weighs : Entry → State → State → Type 0
+  Weighs entry old new = held_weight weight new.held + taken_weight weight entry ≡ held_weight weight old.held + accepted_weight weight entry
+
+  claim_weighs : (caller number epoch : ℕ) (tag : List ℕ) (at : ℕ) (answer : Answer) (item : Item) (old new : State) (result : Result (Unit {0}) ClaimFault)
+      → item.number ≡ number → answer ≡ claim_answer result → HeldAfter result item old.held new.held → Weighs (Claim caller number epoch tag at answer) old new
+  claim_weighs caller number epoch tag at answer item old new result number_is is held =
+      subst (λ (a : Answer). Weighs (Claim caller number epoch tag at a) old new) (sym is) (by_result result held)
     where
-      same_held : new.held ≡ old.held → length new.held + 0 ≡ length old.held + 0
-      same_held same = ap (λ (items : List Item). length items + 0) same
+      same_held : new.held ≡ old.held → held_weight weight new.held + 0 ≡ held_weight weight old.held + 0
+      same_held same = ap (λ (items : List Item). held_weight weight items + 0) same
 
-      by_fault : (fault : ClaimFault) → new.held ≡ old.held → Tallies (Claim caller number epoch tag at (claim_answer (Err fault))) old new
+      by_fault : (fault : ClaimFault) → new.held ≡ old.held → Weighs (Claim caller number epoch tag at (claim_answer (Err fault))) old new
       by_fault (claim.Retired floor) same = same_held same
       by_fault claim.Spent same = same_held same
       by_fault claim.ShardFull same = same_held same
       by_fault claim.Failed same = same_held same
 
-      by_result : (result : Result (Unit {0}) ClaimFault) → HeldAfter result item old.held new.held → Tallies (Claim caller number epoch tag at (claim_answer result)) old new
-      by_result (Ok u) moved = omega (arith, length_permutation (old.held ++ item ∷ []) new.held moved, length-append old.held (item ∷ []))
+      by_result : (result : Result (Unit {0}) ClaimFault) → HeldAfter result item old.held new.held → Weighs (Claim caller number epoch tag at (claim_answer result)) old new
+      by_result (Ok u) moved =
+          let same : weight item.number ≡ weight number = ap weight number_is in
+          let alone : held_weight weight (item ∷ []) ≡ weight item.number = omega arith in
+          omega (arith, sum_by-IsPermutation (λ (i : Item). weight i.number) (old.held ++ item ∷ []) new.held moved, sum_by-append (λ (i : Item). weight i.number) old.held (item ∷ []))
       by_result (Err fault) same = by_fault fault same
 
-  unsound_tallies : (caller number epoch : ℕ) (tag : List ℕ) (at : ℕ) (answer : Answer) (old new : State) → StaysUnsound tells terms answer old new
-      → Tallies (Claim caller number epoch tag at answer) old new
-  unsound_tallies caller number epoch tag at answer old new stays =
-      by_answer answer stays.why (ap (λ (s : State). length s.held + 0) stays.new_is)
+  unsound_weighs : (caller number epoch : ℕ) (tag : List ℕ) (at : ℕ) (answer : Answer) (old new : State) → StaysUnsound tells terms answer old new
+      → Weighs (Claim caller number epoch tag at answer) old new
+  unsound_weighs caller number epoch tag at answer old new stays =
+      by_answer answer stays.why (ap (λ (s : State). held_weight weight s.held + 0) stays.new_is)
     where
-      by_answer : (answer : Answer) → Hinders tells answer old.journal.books → length new.held + 0 ≡ length old.held + 0 → Tallies (Claim caller number epoch tag at answer) old new
+      by_answer : (answer : Answer) → Hinders tells answer old.journal.books → held_weight weight new.held + 0 ≡ held_weight weight old.held + 0
+          → Weighs (Claim caller number epoch tag at answer) old new
       by_answer Disk why same = same
       by_answer Journal why same = same
       by_answer Taken why same = absurd why
@@ -132,30 +149,79 @@ module _ (tells : Type 0) (suite : SuiteMeaning) (terms : Terms) where
       by_answer ShardFull why same = absurd why
       by_answer RootFull why same = absurd why
 
-  says_held : (told : Told) (entry : Entry) (old new : State) → Says tells suite terms told entry old new → Tallies entry old new
-  says_held told (Claim caller number epoch tag at answer) old new says =
+  says_weighs : (told : Told) (entry : Entry) (old new : State) → Says tells suite terms told entry old new → Weighs entry old new
+  says_weighs told (Claim caller number epoch tag at answer) old new says =
       ⊎_elim
-      (λ (h : ClaimsItem terms says.1 answer old new). claim_tallies caller number epoch tag at answer says.1 old new h.result h.answer_is h.held)
-      (λ (h : StaysUnsound tells terms answer old new). unsound_tallies caller number epoch tag at answer old new h)
+      (λ (h : ClaimsItem terms says.1 answer old new). claim_weighs caller number epoch tag at answer says.1 old new h.result says.2.number_is h.answer_is h.held)
+      (λ (h : StaysUnsound tells terms answer old new). unsound_weighs caller number epoch tag at answer old new h)
       says.3
-  says_held told (Take caller number dest moment) old new says =
-      omega (arith, length_permutation old.held (says.item ∷ new.held) says.rest)
-  says_held told (Rotate caller moment answer) old new says =
-      ap (λ (items : List Item). length items + 0)
+  says_weighs told (Take caller number dest moment) old new says =
+      let same : weight says.item.number ≡ weight number = ap weight says.number_is in
+      omega (arith, sum_by_popped (λ (i : Item). weight i.number) says.item old.held new.held says.rest)
+  says_weighs told (Rotate caller moment answer) old new says =
+      ap (λ (items : List Item). held_weight weight items + 0)
       (⊎_elim (λ (h : Rotates terms moment answer old new). h.held) (λ (h : StaysUnsound tells terms answer old new). ap (λ (s : State). s.held) h.new_is) says)
-  says_held told (Done who) old new says = ap (λ (s : State). length s.held + 0) says.1
-  says_held told (Reopened caller floor pairs) old new says = ap (λ (s : State). length s.held + 0) says.new_is
+  says_weighs told (Done who) old new says = ap (λ (s : State). held_weight weight s.held + 0) says.1
+  says_weighs told (Reopened caller floor pairs) old new says = ap (λ (s : State). held_weight weight s.held + 0) says.new_is
 
-  pub tale_held : (old new : State) (tale : List Told) → Tale tells suite terms old tale new
-      → length new.held + length (takes tale) ≡ length old.held + length (acceptances tale)
-  tale_held old new [] unheard = ap (λ (s : State). length s.held + 0) unheard.new_is
-  tale_held old new (told ∷ others) tale =
-      let before : length tale.0.held ≡ length old.held = ap (λ (s : State). length s.held) tale.2.new_is in
-      let step = says_held told told.entry tale.0 tale.1 tale.3 in
-      let rest = tale_held tale.1 new others tale.4 in
-      let out = filter_one (λ t. is_take t.entry) told others in
-      let taken = filter_one (λ t. is_accepted t.entry) told others in
+  -- what is held weighs what was held and accepted, without what was taken out
+  pub tale_weighs : (old new : State) (tale : List Told) → Tale tells suite terms old tale new
+      → held_weight weight new.held + sum_by (λ told. taken_weight weight told.entry) tale
+      ≡ held_weight weight old.held + sum_by (λ told. accepted_weight weight told.entry) tale
+  tale_weighs old new [] unheard = ap (λ (s : State). held_weight weight s.held + 0) unheard.new_is
+  tale_weighs old new (told ∷ others) tale =
+      let before : held_weight weight tale.0.held ≡ held_weight weight old.held = ap (λ (s : State). held_weight weight s.held) tale.2.new_is in
+      let step = says_weighs told told.entry tale.0 tale.1 tale.3 in
+      let rest = tale_weighs tale.1 new others tale.4 in
+      let out = sum_by-cons (λ (t : Told). taken_weight weight t.entry) told others in
+      let taken = sum_by-cons (λ (t : Told). accepted_weight weight t.entry) told others in
       omega arith
+
+-- ---- as many packets are held as were accepted and not taken out
+
+one_each : (items : List Item) → held_weight (λ number. 1) items ≡ length items
+one_each [] = refl
+one_each (item ∷ items) = let first = sum_by-cons (λ (i : Item). 1) item items in let rest = one_each items in omega arith
+
+take_one : (entry : Entry) → taken_weight (λ number. 1) entry ≡ one (is_take entry)
+take_one (Claim caller number epoch tag at answer) = refl
+take_one (Take caller number dest moment) = refl
+take_one (Rotate caller moment answer) = refl
+take_one (Done caller) = refl
+take_one (Reopened caller floor pairs) = refl
+
+accept_one : (entry : Entry) → accepted_weight (λ number. 1) entry ≡ one (is_accepted entry)
+accept_one (Claim caller number epoch tag at Taken) = refl
+accept_one (Claim caller number epoch tag at (Retired floor)) = refl
+accept_one (Claim caller number epoch tag at Spent) = refl
+accept_one (Claim caller number epoch tag at ShardFull) = refl
+accept_one (Claim caller number epoch tag at RootFull) = refl
+accept_one (Claim caller number epoch tag at Disk) = refl
+accept_one (Claim caller number epoch tag at Journal) = refl
+accept_one (Take caller number dest moment) = refl
+accept_one (Rotate caller moment answer) = refl
+accept_one (Done caller) = refl
+accept_one (Reopened caller floor pairs) = refl
+
+ones : (weight : Entry → ℕ) (p : Entry → Bool) → ((entry : Entry) → weight entry ≡ one (p entry)) → (tale : List Told)
+    → sum_by (λ (told : Told). weight told.entry) tale ≡ length (filter (λ told. p told.entry) tale)
+ones weight p each [] = refl
+ones weight p each (told ∷ others) =
+    let first = each told.entry in
+    let rest = ones weight p each others in
+    let whole = filter_one (λ t. p t.entry) told others in
+    let sum = sum_by-cons (λ (t : Told). weight t.entry) told others in
+    omega arith
+
+pub tale_held : (tells : Type 0) (suite : SuiteMeaning) (terms : Terms) (old new : State) (tale : List Told) → Tale tells suite terms old tale new
+    → length new.held + length (takes tale) ≡ length old.held + length (acceptances tale)
+tale_held tells suite terms old new tale tells_it =
+    let weighs = tale_weighs tells suite terms (λ number. 1) old new tale tells_it in
+    let now = one_each new.held in
+    let before = one_each old.held in
+    let out = ones (taken_weight (λ number. 1)) is_take take_one tale in
+    let in_ = ones (accepted_weight (λ number. 1)) is_accepted accept_one tale in
+    omega arith
 
 -- ---- a tale in two parts
 

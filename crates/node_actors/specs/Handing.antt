@@ -54,11 +54,12 @@ pub record HandsOver (hop : List ℕ) (old new : LinkOutState) (log : List (Taki
   pub failed : RoseBy (unsent_in log) old.faults new.faults
 
 -- the local connector of a node with links to these hops: it took nothing that goes over one of them; what is noted as sent
--- is for a recipient of this node, and is what was kept, in that order
+-- is all that it took for recipients of this node, and is what was kept, in that order
 pub record KeepsLocal (hops : List (List ℕ)) (local : List Item) (log : List (Taking Item)) : Type 0 where
   pub unlinked : All (λ taking. IsUnlinked hops (destination taking.item.value.out)) log
   pub local_is : local ≡ kept_items log
   pub for_recipients : All (λ item. destination item.out ≡ Local) local
+  pub none_lost : All (λ taking. destination taking.item.value.out ≡ Local → taking.sent ≡ true) log
 
 -- those of some packets that weren't left out
 abbrev pub not_left_out : List (List ℕ) → List Bool → List (List ℕ)

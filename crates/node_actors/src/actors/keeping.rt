@@ -1,6 +1,6 @@
 // The local connector: it takes out what is due for a recipient of this node, and keeps it. What goes to a hop without a
 // link is taken out too, and lost.
-ghost use Rattle.std.specs.Prelude.{◌≡◌, ◌<◌, ◌++◌, [], All, length};
+ghost use Rattle.std.specs.Prelude.{◌≡◌, ◌<◌, ◌++◌, [], All, length, true, vec_capacity, vec_len};
 ghost use Rattle.due_queue.specs.declared.destinations.Dest.TheVariants.{Local};
 ghost use Rattle.mix_shard.specs.Items.{destination};
 ghost use Rattle.node_actors.specs.Connecting.{GoesOnKeeping};
@@ -163,12 +163,15 @@ impl<'a, H: Wait, R: Rack, S: Suite, C: Clock> Keeper<'a, H, R, S, C> {
         sight
     }
 
-    /// Takes at most one packet out of a shard.
+    /// Takes at most one packet out of a shard. Room for it comes first; where memory is wanting none is taken in this round.
     fn visit(&mut self, shard: usize, moment: u64) -> Sight
         requires shard { shard < length self.old.taker.seat.locks }
         requires moment { C.may_give self.old.clock moment }
         ensures { GoesOnKeeping self.old self.new }
     {
+        if self.local.reserve(1).is_err() {
+            return Sight::Waiting;
+        }
         match self
             .seat
             .take_out_local(shard, self.hops.as_slice(), moment)
@@ -187,13 +190,18 @@ impl<'a, H: Wait, R: Rack, S: Suite, C: Clock> Keeper<'a, H, R, S, C> {
     }
 }
 
-/// Puts what is for a recipient of this node behind the others, and says whether that was done.
+/// Puts what is for a recipient of this node behind the others, and says whether it is for one. Asks room for it.
 fn keep<S: Suite>(local: &mut Vec<Held<S>>, held: Held<S>) -> bool
+    requires { vec_len local.old < vec_capacity local.old }
     ensures kept { local.new.items ≡ local.old.items ++ kept_where result held }
     ensures for_recipient { All (λ item. destination item.out ≡ Local) (kept_where result held) }
+    ensures none_lost { destination held.out ≡ Local → result ≡ true }
 {
     match held.out() {
         Out::Forward { .. } => false,
-        _ => local.push(held).is_ok(),
+        _ => {
+            local.push_reserved(held);
+            true
+        }
     }
 }
