@@ -1,23 +1,19 @@
 -- A packet that is claimed once is taken out once: what is held was accepted, and what is taken out isn't held any
 -- more.
-use Rattle.std.proofs.Common.{◌≡◌, ◌≢◌, ℕ, ◌+◌, ◌≤◌, ◌==◌, cond, List, [], ◌∷◌, ◌++◌, refl, sym, ap, subst, ◌∙◌, inl, inr, ⊎_elim, arith, Result, Ok, Err, eq-eqb, ne_eqb}
+use Rattle.std.proofs.Common.{◌≡◌, ◌≢◌, ℕ, ◌+◌, ◌≤◌, ◌==◌, cond, List, [], ◌∷◌, ◌++◌, refl, sym, ap, ◌∙◌, inl, inr, arith, eq-eqb, ne_eqb}
 use Rattle.std.specs.Prelude.{Contains, flat_map, sum_by}
 use Rattle.std.proofs.lemmas.Bool.{cases_eq}
-use Rattle.std.proofs.lemmas.List.Sorted.{sum_by-IsPermutation, sum_by_popped}
-use Rattle.std.proofs.lemmas.List.Sums.{sum_by-append}
+use Rattle.std.proofs.lemmas.List.Sums.{sum_by-cons}
 use Rattle.mix_base.specs.Suites.{SuiteMeaning}
 use Rattle.mix_base.proofs.Members.{Contains-cons_cases, Contains-head, Contains-tail, none_in_empty}
-use Rattle.spent_store.specs.declared.faults.ClaimFault.{ClaimFault}
-use Rattle.spent_store.specs.declared.faults.ClaimFault.TheVariants as claim
-use Rattle.mix_shard.specs.Entries.{claim_answer}
 use Rattle.mix_shard.specs.Items.{Item}
-use Rattle.mix_shard.specs.Tale.{ClaimsItem, HeldAfter, Hinders, Rotates, Says, State, StaysUnsound, Tale}
-use Rattle.mix_shard.specs.declared.entries.Answer.{Answer}
+use Rattle.mix_shard.specs.Tale.{State, Tale}
 use Rattle.mix_shard.specs.declared.entries.Answer.TheVariants.{Taken, Retired, Spent, ShardFull, RootFull, Disk, Journal}
 use Rattle.mix_shard.specs.declared.entries.Entry.{Entry}
 use Rattle.mix_shard.specs.declared.entries.Entry.TheVariants.{Claim, Take, Rotate, Done, Reopened}
 use Rattle.mix_shard.specs.declared.entries.Told.{Told}
 use Rattle.mix_shard.specs.declared.terms.Terms.{Terms}
+use Rattle.node_actors.proofs.Tallies.{accepted_weight, held_weight, taken_weight, tale_weighs}
 use Rattle.node_run.specs.Orders.{Differ, claim_numbers, claimed_number, take_numbers, taken_number}
 use Rattle.node_run.proofs.Elements.{pairs_cons, pairs_head, pairs_nil, pairs_tail}
 
@@ -103,86 +99,47 @@ fewer m (told ∷ others) =
     let right = times_append m (claimed_number told.entry) (claim_numbers others) in
     omega arith
 
--- ---- what is held
+-- ---- what is held, by how often a number stands in it
 
-module _ (tells : Type 0) (suite : SuiteMeaning) (terms : Terms) (m : ℕ) where
-  abbrev weight : Item → ℕ
-  weight item = one_for m item.number
+times_taken : (m : ℕ) (entry : Entry) → taken_weight (one_for m) entry ≡ times m (taken_number entry)
+times_taken m (Claim caller number epoch tag at answer) = refl
+times_taken m (Take caller number dest moment) = omega arith
+times_taken m (Rotate caller moment answer) = refl
+times_taken m (Done caller) = refl
+times_taken m (Reopened caller floor pairs) = refl
 
-  abbrev holds : List Item → ℕ
-  holds items = sum_by weight items
+times_accepted : (m : ℕ) (entry : Entry) → accepted_weight (one_for m) entry ≡ times m (accepted_number entry)
+times_accepted m (Claim caller number epoch tag at Taken) = omega arith
+times_accepted m (Claim caller number epoch tag at (Retired floor)) = refl
+times_accepted m (Claim caller number epoch tag at Spent) = refl
+times_accepted m (Claim caller number epoch tag at ShardFull) = refl
+times_accepted m (Claim caller number epoch tag at RootFull) = refl
+times_accepted m (Claim caller number epoch tag at Disk) = refl
+times_accepted m (Claim caller number epoch tag at Journal) = refl
+times_accepted m (Take caller number dest moment) = refl
+times_accepted m (Rotate caller moment answer) = refl
+times_accepted m (Done caller) = refl
+times_accepted m (Reopened caller floor pairs) = refl
 
-  abbrev Counts : Entry → State → State → Type 0
-  Counts entry old new = holds new.held + times m (taken_number entry) ≡ holds old.held + times m (accepted_number entry)
-
-  counts_claim : (caller number epoch : ℕ) (tag : List ℕ) (at : ℕ) (answer : Answer) (item : Item) (old new : State) (result : Result (Unit {0}) ClaimFault)
-      → item.number ≡ number → answer ≡ claim_answer result → HeldAfter result item old.held new.held → Counts (Claim caller number epoch tag at answer) old new
-  counts_claim caller number epoch tag at answer item old new result number_is is held =
-      subst (λ (a : Answer). Counts (Claim caller number epoch tag at a) old new) (sym is) (by_result result held)
-    where
-      same_held : new.held ≡ old.held → holds new.held + 0 ≡ holds old.held + 0
-      same_held same = ap (λ (items : List Item). holds items + 0) same
-
-      by_fault : (fault : ClaimFault) → new.held ≡ old.held → Counts (Claim caller number epoch tag at (claim_answer (Err fault))) old new
-      by_fault (claim.Retired floor) same = same_held same
-      by_fault claim.Spent same = same_held same
-      by_fault claim.ShardFull same = same_held same
-      by_fault claim.Failed same = same_held same
-
-      by_result : (result : Result (Unit {0}) ClaimFault) → HeldAfter result item old.held new.held → Counts (Claim caller number epoch tag at (claim_answer result)) old new
-      by_result (Ok u) moved =
-          let weighs : one_for m item.number ≡ one_for m number = ap (λ (n : ℕ). one_for m n) number_is in
-          let one : sum_by weight (item ∷ []) ≡ one_for m item.number = omega arith in
-          omega (arith, sum_by-IsPermutation weight (old.held ++ item ∷ []) new.held moved, sum_by-append weight old.held (item ∷ []))
-      by_result (Err fault) same = by_fault fault same
-
-  counts_unsound : (caller number epoch : ℕ) (tag : List ℕ) (at : ℕ) (answer : Answer) (old new : State) → StaysUnsound tells terms answer old new
-      → Counts (Claim caller number epoch tag at answer) old new
-  counts_unsound caller number epoch tag at answer old new stays =
-      by_answer answer stays.why (ap (λ (s : State). holds s.held + 0) stays.new_is)
-    where
-      by_answer : (answer : Answer) → Hinders tells answer old.journal.books → holds new.held + 0 ≡ holds old.held + 0 → Counts (Claim caller number epoch tag at answer) old new
-      by_answer Disk why same = same
-      by_answer Journal why same = same
-      by_answer Taken why same = absurd why
-      by_answer (Retired floor) why same = absurd why
-      by_answer Spent why same = absurd why
-      by_answer ShardFull why same = absurd why
-      by_answer RootFull why same = absurd why
-
-  counts : (told : Told) (entry : Entry) (old new : State) → Says tells suite terms told entry old new → Counts entry old new
-  counts told (Claim caller number epoch tag at answer) old new says =
-      ⊎_elim
-      (λ (h : ClaimsItem terms says.1 answer old new). counts_claim caller number epoch tag at answer says.1 old new h.result says.2.number_is h.answer_is h.held)
-      (λ (h : StaysUnsound tells terms answer old new). counts_unsound caller number epoch tag at answer old new h)
-      says.3
-  counts told (Take caller number dest moment) old new says =
-      let weighs : one_for m says.item.number ≡ one_for m number = ap (λ (n : ℕ). one_for m n) says.number_is in
-      omega (arith, sum_by_popped weight says.item old.held new.held says.rest)
-  counts told (Rotate caller moment answer) old new says =
-      ap (λ (items : List Item). holds items + 0)
-      (⊎_elim (λ (h : Rotates terms moment answer old new). h.held) (λ (h : StaysUnsound tells terms answer old new). ap (λ (s : State). s.held) h.new_is) says)
-  counts told (Done who) old new says = ap (λ (s : State). holds s.held + 0) says.1
-  counts told (Reopened caller floor pairs) old new says = ap (λ (s : State). holds s.held + 0) says.new_is
-
-  tale_counts : (old new : State) (tale : List Told) → Tale tells suite terms old tale new
-      → holds new.held + times m (take_numbers tale) ≡ holds old.held + times m (accepted_numbers tale)
-  tale_counts old new [] unheard = ap (λ (s : State). holds s.held + 0) unheard.new_is
-  tale_counts old new (told ∷ others) tale =
-      let before : holds tale.0.held ≡ holds old.held = ap (λ (s : State). holds s.held) tale.2.new_is in
-      let step = counts told told.entry tale.0 tale.1 tale.3 in
-      let rest = tale_counts tale.1 new others tale.4 in
-      let out = times_append m (taken_number told.entry) (take_numbers others) in
-      let taken = times_append m (accepted_number told.entry) (accepted_numbers others) in
-      omega arith
+times_all : (m : ℕ) (weight : Entry → ℕ) (numbers : Entry → List ℕ) → ((entry : Entry) → weight entry ≡ times m (numbers entry)) → (tale : List Told)
+    → sum_by (λ (told : Told). weight told.entry) tale ≡ times m (flat_map (λ told. numbers told.entry) tale)
+times_all m weight numbers each [] = refl
+times_all m weight numbers each (told ∷ others) =
+    let first = each told.entry in
+    let rest = times_all m weight numbers each others in
+    let whole = times_append m (numbers told.entry) (flat_map (λ (t : Told). numbers t.entry) others) in
+    let sum = sum_by-cons (λ (t : Told). weight t.entry) told others in
+    omega arith
 
 -- where nothing was held, and no number is claimed twice, none is taken out twice
 pub takes_once : (tells : Type 0) (suite : SuiteMeaning) (terms : Terms) (old new : State) (tale : List Told) → Tale tells suite terms old tale new
     → old.held ≡ [] → Differ (claim_numbers tale) → Differ (take_numbers tale)
 takes_once tells suite terms old new tale told empty differ =
     differ_times (take_numbers tale) (λ m.
-    let counted = tale_counts tells suite terms m old new tale told in
-    let none : sum_by (λ (item : Item). one_for m item.number) old.held ≡ 0 = ap (λ (items : List Item). sum_by (λ (item : Item). one_for m item.number) items) empty in
+    let counted = tale_weighs tells suite terms (one_for m) old new tale told in
+    let out = times_all m (taken_weight (one_for m)) taken_number (times_taken m) tale in
+    let taken = times_all m (accepted_weight (one_for m)) accepted_number (times_accepted m) tale in
+    let none : held_weight (one_for m) old.held ≡ 0 = ap (held_weight (one_for m)) empty in
     let few = fewer m tale in
     let once = times_differ m (claim_numbers tale) differ in
     omega arith)
