@@ -1,0 +1,11 @@
+mod Laters
+mod NodesOpen
+mod Opened
+mod Opens
+mod Lasting
+mod Returned
+mod Seating
+mod Stacks
+mod Passing
+mod Texts
+mod Wiring
